@@ -1,0 +1,11 @@
+//! Cases: the inputs that the reference is run on, and that others can be compared on.
+
+mod frames;
+mod planes;
+mod scalings;
+mod windows;
+
+pub use frames::{frame_around, frame_in_domain, SIZES_OF_NOTE};
+pub use planes::{plane_case, stripe_order, unrestored_case, PlaneCase};
+pub use scalings::{copy_case, upscale_case, widths_of_note, UpscaleCase};
+pub use windows::{sample_case, SampleCase};
