@@ -3,22 +3,20 @@ use mathlib.Core.Path.{_≡_, ap}
 use mathlib.Core.Bool.{Bool, _&&_}
 use Prim.Native.Nat.{ℕ, zero, suc, _+_, _-_, _*_, _≤_}
 use native.Mathlib.Omega.{arith}
-use lib.IntN.{pos, _*ℤ_}
 use lib.Dec.{leb, leb→le}
 use Rattle.standard.specs.declared.Depth.{Depth}
 use Rattle.standard.specs.declared.Taps.{Taps}
 use Rattle.standard.specs.declared.Weights.{Weights}
 use Rattle.standard.specs.declared.Kind.{Kind}
 use Rattle.standard.specs.declared.Kind.the-variants.{None, Wiener, SelfGuided}
-use Rattle.standard.specs.Wiener.{Grid, across, clipMid, tap, wiener}
+use Rattle.standard.specs.Wiener.{Grid, across, wiener}
 use Rattle.standard.specs.SelfGuided.{Passes, a2At, a2Of, area, b2At, boxSum, filtered, oneOver, passOf, project, scale, selfGuided, sgr, sgrParams, shift, spread, weight, weighted}
 use Rattle.laws.specs.Lists.{all, all-at}
 use Rattle.laws.specs.Tests.{and-l, and-r}
 use Rattle.laws.specs.Congruence.{ap2, ap3}
-use Rattle.standard.specs.Arithmetic.{clipTo, round2, roundℕ}
-use Rattle.standard.specs.Depths.{largest, r0, r1}
+use Rattle.standard.specs.Arithmetic.{sumℤ, roundℕ}
 use Rattle.standard.specs.Fetch.{restored}
-use Rattle.standard.proofs.Sums.{sum-same, sumℤ-same}
+use Rattle.standard.proofs.Sums.{sum-same}
 
 -- ---- two windows that are equal on 0 .. 6 by 0 .. 6
 pub record Agree (w v : Grid) : Type 0 where
@@ -36,12 +34,12 @@ radius set =
 
 module _ {w v : Grid} (e : Agree w v) where
   across-local : (d : Depth) (t : Taps) (i : ℕ) → i ≤ 6 → across d t w i ≡ across d t v i
-  unfolding across
-  across-local d t i h = ap (λ z. clipMid d (round2 (r0 d) z)) (sumℤ-same 7 _ _ (λ j p. ap (λ n. tap (t .h0) (t .h1) (t .h2) j *ℤ pos n) (e .same i j h (omega arith))))
+  unfolding across sumℤ
+  across-local d t i h = rw (e .same i 0 h (omega arith), e .same i 1 h (omega arith), e .same i 2 h (omega arith), e .same i 3 h (omega arith), e .same i 4 h (omega arith), e .same i 5 h (omega arith), e .same i 6 h (omega arith))
 
   wiener-local : (d : Depth) (t : Taps) → wiener d t w ≡ wiener d t v
-  unfolding wiener
-  wiener-local d t = ap (λ z. clipTo (largest d) (round2 (r1 d) z)) (sumℤ-same 7 _ _ (λ i p. ap (λ z. tap (t .v0) (t .v1) (t .v2) i *ℤ z) (across-local d t i (omega arith))))
+  unfolding wiener sumℤ
+  wiener-local d t = rw (across-local d t 0 (omega arith), across-local d t 1 (omega arith), across-local d t 2 (omega arith), across-local d t 3 (omega arith), across-local d t 4 (omega arith), across-local d t 5 (omega arith), across-local d t 6 (omega arith))
 
   box-local : (f : ℕ → ℕ) (r y x : ℕ) → r ≤ 2 → y ≤ 4 → x ≤ 4 → boxSum r (λ i j. f (w i j)) y x ≡ boxSum r (λ i j. f (v i j)) y x
   unfolding boxSum

@@ -1,9 +1,7 @@
 -- The row counts only by being odd or even.
-use mathlib.Core.Path.{_≡_, refl, ap, sym}
-use mathlib.Core.Bool.{cond}
+use mathlib.Core.Path.{_≡_, refl, ap}
 use Prim.Native.Nat.{ℕ, zero, suc, _+_, _*_, _%_}
 use native.Mathlib.Nat.{mod-add-mod, mod-mod}
-use lib.Dec.{eqb}
 use Rattle.standard.specs.declared.Depth.{Depth}
 use Rattle.standard.specs.declared.Kind.{Kind}
 use Rattle.standard.specs.declared.Kind.the-variants.{None, Wiener, SelfGuided}
@@ -16,12 +14,12 @@ use Rattle.standard.proofs.Sums.{sum-same}
 
 pub weight-parity : (pass y i j : ℕ) → weight pass y i j ≡ weight pass (y % 2) i j
 unfolding weight
-weight-parity zero y i j = ap (λ n. cond (eqb n 0) (cond (eqb j 1) 6 5) 0) (sym (mod-add-mod y 2 i))
+weight-parity zero y i j = rw (mod-add-mod y 2 i)
 weight-parity (suc _) y i j = refl
 
 pub shift-parity : (pass y : ℕ) → shift pass y ≡ shift pass (y % 2)
 unfolding shift
-shift-parity zero y = ap (λ n. cond (eqb n 1) 4 5) (sym (mod-mod y 2))
+shift-parity zero y = rw (mod-mod y 2)
 shift-parity (suc _) y = refl
 
 weighted-parity : (pass y : ℕ) (g : Grid) → weighted pass y g ≡ weighted pass (y % 2) g

@@ -28,6 +28,15 @@ pub record Lowest (l : List (ℕ × Bool)) : Type 0 where
   pub complete : first l ≡ 0 → (k : ℕ) → nth l k .1 ≡ false
   pub lowest : (k : ℕ) → nth l k .1 ≡ true → (0 < first l) × (first l ≤ nth l k .0)
 
+-- a call's tests, one after the other: the first that holds gives the number
+pub first-here : (n : ℕ) (b : Bool) (l : List (ℕ × Bool)) → b ≡ true → first ((n, b) ∷ l) ≡ n
+unfolding first
+first-here n b l e = rw e
+
+pub first-past : (n : ℕ) (b : Bool) (l : List (ℕ × Bool)) → b ≡ false → first ((n, b) ∷ l) ≡ first l
+unfolding first
+first-past n b l e = rw e
+
 -- numbers above m, ascending
 abbrev pub ascending : ℕ → List (ℕ × Bool) → Bool
 ascending m [] = true

@@ -13,7 +13,7 @@ use Rattle.standard.specs.Wiener.{Grid}
 use Rattle.standard.specs.Fetch.{changed}
 use Rattle.standard.specs.Planes.{capturedSlice}
 use Rattle.standard.specs.Refusals.{planeTests}
-use Rattle.standard.specs.Calls.{StripeCall, Lent, run, planeAnswer, planeChanged}
+use Rattle.standard.specs.Calls.{StripeCall, run, planeAnswer, planeChanged}
 use Rattle.standard.proofs.Opened.{opened}
 
 frameB : Frame
