@@ -17,3 +17,4 @@ pub mod Rows
 pub mod Paint
 pub mod Cover
 pub mod Tiles
+pub mod Bounds
