@@ -12,17 +12,13 @@ use Rattle.laws.specs.Sizes.{abs-sub, abs-shr-le}
 use borrow.Author.Tests.{eq-eqb, ne-eqb}
 use Rattle.laws.specs.Congruence.{ap5}
 use Rattle.laws.specs.SignedCode.{Expression, Nat, Lit, _⊝_}
+use Rattle.frames.proofs.Legal.{halved}
 use Rattle.standard.specs.declared.Geometry.{Geometry}
 use Rattle.standard.specs.Stripes.{units, stripeStartY, stripeStart, stripeStop, stripeOf, stripes, rectangles, left, right, unitRow, stripeEndY, rectangle}
 use Rattle.standard.proofs.Stripes.{Halved, full, half, stripe-exists}
 use Rattle.geometry.specs.Legal.{Legal}
 
 -- ---- rows
-pub halved : (sy : ℕ) → sy ≤ 1 → Halved sy
-halved zero h = full
-halved (suc zero) h = half
-halved (suc (suc sy)) h = absurd (omega arith)
-
 -- `row << sub_y` keeps its bits
 pub luma-kept : (sy row : ℕ) → sy ≤ 1 → row ≤ 65535 → (row * 2 ^ sy % 4294967296 ≡ row * 2 ^ sy) × (row * 2 ^ sy ≤ 131070)
 luma-kept zero row h k = (omega arith, omega arith)

@@ -1,26 +1,24 @@
 -- The tests of a frame: the number that each gives, what passes has legal numbers, and the answers beside them.
-use mathlib.Core.Path.{_≡_, refl, sym, _∙_, ap, subst}
+use mathlib.Core.Path.{_≡_, refl, sym, _∙_, ap}
 use mathlib.Core.Bool.{Bool, true, false, cond}
 use mathlib.Core.List.{[], _∷_}
 use Prim.Native.Nat.{ℕ, _≤_, _<_}
 use native.Mathlib.Omega.{arith}
-use lib.Dec.{T, eqb, leb, ltb}
-use borrow.Author.Tests.{eqb-false, ltb-false, ne-eqb}
-use Rattle.laws.specs.Tests.{Test, test, or-no}
-use Rattle.frames.proofs.Conditions.{plane-high, sub-high, sub-pair, sub-small}
+use lib.Dec.{leb}
+use borrow.Author.Tests.{ne-eqb}
+use Rattle.laws.specs.Tests.{or-no}
+use Rattle.frames.proofs.Legal.{legal-frame}
 use Rattle.standard.specs.declared.Frame.{Frame}
 use Rattle.standard.specs.declared.Counts.{Counts}
 use Rattle.standard.specs.declared.Geometry.{Geometry}
-use Rattle.standard.specs.Arithmetic.{roundℕ}
 use Rattle.standard.specs.Stripes.{rectangle, rectangles}
 use Rattle.standard.specs.Refusals.{no2, no4, no5, first, countTests, rectangleTests, subX, subY, planeHeight, planeWidth}
 use Rattle.standard.specs.Answers.{noCounts, nowhere}
 use Rattle.standard.specs.Calls.{countsOf, countAnswer, rectangleAnswer}
-use Rattle.standard.proofs.Stripes.{Halved, full, half, Size, s32, s64, s128, s256, size-of}
+use Rattle.standard.proofs.Stripes.{half, Size, s32, s64, s128, s256, size-of}
 use Rattle.standard.proofs.Frames.{sized-of}
 use Rattle.standard.proofs.Refusals.{count-table}
 use Rattle.geometry.specs.Legal.{Legal}
-use Rattle.geometry.proofs.Laws.{halved}
 
 -- ---- the number that each test gives, where earlier ones have answered
 module _ (f : Frame) where
@@ -48,26 +46,6 @@ module _ (f : Frame) where
         gives-0 e = rw (e2, eh, ew, e)
 
 -- ---- what the numbers of a frame are where no test gives one
-clash : {A : Type 0} {b : Bool} → true ≡ b → b ≡ false → A
-clash p q = absurd (subst T (p ∙ q) tt)
-
-pub subs-small : (p sx sy : ℕ) → no2 p sx sy ≡ false → (sx ≤ 1) × (sy ≤ 1)
-subs-small p sx sy e = go (ltb 2 p) (test 2 p) (ltb 1 sx) (test 1 sx)
-  where
-    go : (a : Bool) → Test 2 p a → (b : Bool) → Test 1 sx b → (sx ≤ 1) × (sy ≤ 1)
-    go true (Test.below h) b t = clash (plane-high p sx sy h) e
-    go false (Test.above h) true (Test.below k) = clash (sub-high p sx sy h k) e
-    go false (Test.above h) false (Test.above k) = let q = ltb-false sx sy (sub-pair p sx sy h k ∙ e) in (k, omega (arith, q))
-
-side-legal : (n : ℕ) → no4 n ≡ false → (0 < n) × (n ≤ 16384)
-unfolding no4
-side-legal n e = let p = or-no (eqb n 0) (ltb 16384 n) e in let z = eqb-false n 0 (p .0) in (omega arith, ltb-false 16384 n (p .1))
-
-extent-legal : {sub : ℕ} → Halved sub → (side : ℕ) → (0 < side) × (side ≤ 16384) → (0 < roundℕ sub side) × (roundℕ sub side ≤ 16384)
-unfolding roundℕ
-extent-legal full side h = (omega arith, omega arith)
-extent-legal half side h = (omega arith, omega arith)
-
 size-legal : {size : ℕ} → Size size → (0 < size) × (size ≤ 256)
 size-legal s32 = (omega arith, omega arith)
 size-legal s64 = (omega arith, omega arith)
@@ -89,28 +67,22 @@ unfolding countTests
 passed f e =
     let none = count-table f .complete e in
     let sides = or-no (no4 (f .«frame_height»)) (no4 (f .«upscaled_width»)) (none 1) in
-    let subs = subs-small (f .plane) (f .«sub_x») (f .«sub_y») (none 0) in
-    let high = side-legal (f .«frame_height») (sides .0) in
-    let wide = side-legal (f .«upscaled_width») (sides .1) in
-    let own-x : subX f ≤ 1 = sub-small (f .plane) (f .«sub_x») 1 (subs .0) in
-    let own-y : subY f ≤ 1 = sub-small (f .plane) (f .«sub_y») 1 (subs .1) in
-    let rows = extent-legal (halved (subY f) own-y) (f .«frame_height») high in
-    let cols = extent-legal (halved (subX f) own-x) (f .«upscaled_width») wide in
+    let l = legal-frame f (none 0) (sides .0) (sides .1) in
     let size = size-legal (size-of (sized-of f (none 0) (none 2))) in
     record {
-      sub-x = subs .0;
-      sub-y = subs .1;
-      high = high .1;
-      wide = wide .1;
-      own-x = own-x;
+      sub-x = l .sub-x;
+      sub-y = l .sub-y;
+      high = l .high;
+      wide = l .wide;
+      own-x = l .own-x;
       legal = record {
-        half = own-y;
+        half = l .own-y;
         unit = size .0;
         small = size .1;
-        rows = rows .0;
-        high = rows .1;
-        columns = cols .0;
-        wide = cols .1;
+        rows = l .rows;
+        high = l .rows-low;
+        columns = l .cols;
+        wide = l .cols-low;
       };
       no-2 = none 0;
       no-5 = none 2;

@@ -18,7 +18,8 @@ use Rattle.standard.specs.Stripes.{rectangle, rectangles, block, blockOf}
 use Rattle.standard.proofs.Answers.{counted-once, placed-once}
 use Rattle.standard.proofs.Frames.{sized-of}
 use Rattle.standard.proofs.Rectangles.{In, indexOf, index-below, covered, once, named}
-use Rattle.geometry.proofs.Laws.{halved, count-small}
+use Rattle.frames.proofs.Legal.{halved}
+use Rattle.geometry.proofs.Laws.{count-small}
 use Rattle.geometry.proofs.Tests.{passed, rectangle-done, rectangle-over, count-done}
 
 pub count-once : (f : Frame) (r s : Counted) → ofCounted r ≡ countAnswer f → ofCounted s ≡ countAnswer f → r ≡ s

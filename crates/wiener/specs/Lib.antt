@@ -1,0 +1,2 @@
+-- The two passes over rows
+pub mod Passes
