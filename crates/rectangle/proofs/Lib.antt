@@ -1,1 +1,3 @@
 pub mod SharpLaws
+pub mod PlainLaws
+pub mod SoftLaws

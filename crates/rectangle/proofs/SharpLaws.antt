@@ -23,7 +23,7 @@ use Rattle.wiener.specs.Passes.{biased, acrossAt}
 use Rattle.wiener.proofs.WindowLaws.{across-same}
 
 -- a clamped place is a place of the row
-near-in : (w x k : ℕ) → 0 < w → near w x k < w
+pub near-in : (w x k : ℕ) → 0 < w → near w x k < w
 near-in w x k p = omega arith
 
 -- where no clamp acts
@@ -62,13 +62,13 @@ handed-value d t inside beside w h r x0 y0 k y row e f g x = ap (biased d) (acro
 view-is : (h w y0 x0 i j a b : ℕ) → (near h y0 (i + a) ≡ near h (y0 + i) a) × (near w x0 (j + b) ≡ near w (x0 + j) b)
 view-is h w y0 x0 i j a b = (ap (λ (n : ℕ). min (n - 3) (h - 1)) (sym (add-assoc y0 i a)), ap (λ (n : ℕ). min (n - 3) (w - 1)) (sym (add-assoc x0 j b)))
 
-module _ (d : Depth) (t : Taps) (inside beside : List ℤ) (w h : ℕ) (r : Source) (x0 y0 : ℕ) where
+module _ (inside beside : List ℤ) (w h : ℕ) (r : Source) (x0 y0 : ℕ) where
   abbrev pub part : Grid
   part i j = sourceCell inside beside w r (near h y0 i) (near w x0 j)
 
   pub part-is : (i j a b : ℕ) → part (i + a) (j + b) ≡ viewAt inside beside w h r (y0 + i) (x0 + j) a b
   part-is i j a b = ap2 (sourceCell inside beside w r) (view-is h w y0 x0 i j a b .0) (view-is h w y0 x0 i j a b .1)
 
-  pub wiener-part : (i j : ℕ) → wiener d t (λ a b. part (i + a) (j + b)) ≡ wiener d t (viewAt inside beside w h r (y0 + i) (x0 + j))
+  pub wiener-part : (d : Depth) (t : Taps) (i j : ℕ) → wiener d t (λ a b. part (i + a) (j + b)) ≡ wiener d t (viewAt inside beside w h r (y0 + i) (x0 + j))
   unfolding restored
-  wiener-part i j = restored-local (record { same = λ a b p q. part-is i j a b }) d 0 (Wiener t)
+  wiener-part d t i j = restored-local (record { same = λ a b p q. part-is i j a b }) d 0 (Wiener t)

@@ -1,6 +1,6 @@
 -- What a stripe's source shows round a sample, and what the rows that it hands out must meet.
 use mathlib.Core.List.{List}
-use Prim.Native.Nat.{ℕ, _≤_, _<_}
+use Prim.Native.Nat.{ℕ, _+_, _≤_, _<_}
 use lib.IntN.{ℤ, pos}
 use Rattle.laws.specs.Bounds.{Samples}
 use Rattle.standard.specs.declared.Depth.{Depth}
@@ -32,3 +32,8 @@ pub record Sides (w h : ℕ) : Type 0 where
   pub high : 0 < h
   pub wide-low : w ≤ 16384
   pub high-low : h ≤ 16384
+
+-- rows that are the stripe's own
+pub record Own (r : Source) (y0 rh : ℕ) : Type 0 where
+  pub after : r .start ≤ y0
+  pub before : y0 + rh ≤ r .stop

@@ -29,7 +29,7 @@ module _ (c : tie.After-across-rows) where
   st = c .before .before .before .before .before
 
   abbrev seen : Grid
-  seen = part (st .args .d) (st .args .t) (st .args .inside .now) (st .args .beside .now) (st .args .w) (st .args .h) (st .args .r) (st .args .x0) (st .args .y0)
+  seen = part (st .args .inside .now) (st .args .beside .now) (st .args .w) (st .args .h) (st .args .r) (st .args .x0) (st .args .y0)
 
   as-long : length (c .across-rows .last .0) ≡ length (st .args .s .now)
   as-long = ap length (c .across-rows .ensures) ∙ rows-length _ _ _ _ _ _
@@ -68,7 +68,7 @@ returns c = let a = c .before .before .before .before .before .before .before .b
     let s = st a in
     c .before .down-window .ensures
     ∙ rows-same _ _ _ _ _ _ _ (λ i j p q. window-value (s .args .d) (s .args .t) (seen a) (s .args .s .now) (a .across-rows .last .0) (s .args .rw) (s .args .rh) (a .across-rows .ensures) (s .pre .0 .1) i j p q
-    ∙ ap pos (wiener-part (s .args .d) (s .args .t) (s .args .inside .now) (s .args .beside .now) (s .args .w) (s .args .h) (s .args .r) (s .args .x0) (s .args .y0) i j))
+    ∙ ap pos (wiener-part (s .args .inside .now) (s .args .beside .now) (s .args .w) (s .args .h) (s .args .r) (s .args .x0) (s .args .y0) (s .args .d) (s .args .t) i j))
 
 pub wiener-rect-spec : {M : Type 1} → statement M
 wiener-rect-spec =

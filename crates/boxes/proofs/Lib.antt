@@ -1,0 +1,7 @@
+pub mod Words
+pub mod SumLaws
+pub mod ScaleLaws
+pub mod TableLaws
+pub mod RunLaws
+pub mod BoxLaws
+pub mod Pipe

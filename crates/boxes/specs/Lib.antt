@@ -1,0 +1,4 @@
+pub mod Reads
+pub mod Scales
+pub mod Tables
+pub mod BoxRows

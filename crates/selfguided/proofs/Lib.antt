@@ -1,0 +1,11 @@
+pub mod WeighLaws
+pub mod MixLaws
+pub mod WindowLaws
+pub mod SixPipe
+pub mod SixLaws
+pub mod CrossLaws
+pub mod FinalLaws
+pub mod ParamLaws
+pub mod GuidedLaws
+pub mod ReadyLaws
+pub mod CallLaws
