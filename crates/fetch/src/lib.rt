@@ -42,7 +42,7 @@ pub fn source_row<'a>(
     y: usize,
 ) -> &'a [i32]
     requires { ⌜ Reach (now inside) (now beside) w h r ⌝ }
-    requires { ⌜ (y < h) × (y ≤ 16384) × (r .over ≤ 16384) × (r .inside ≤ 16384) × (r .under ≤ 16384) ⌝ }
+    requires { ⌜ (y < h) × (y ≤ 16384) × (r .over ≤ 20000) × (r .inside ≤ 20000) × (r .under ≤ 20000) ⌝ }
     ensures { λ p. ⌜ now p ≡ sourceRow (now (inside .entry)) (now (beside .entry)) w r y ⌝ }
 {
     let start = r.start;
@@ -150,7 +150,7 @@ pub fn gather<'a>(
 )
     requires { ⌜ (n * m ≤ length (now dst)) × (0 < w) × (w ≤ 16384) × (0 < h) × (h ≤ 16384) ⌝ }
     requires { ⌜ (x0 ≤ 16384) × (y0 ≤ 16384) × (m ≤ 400) × (n ≤ 400) ⌝ }
-    requires { ⌜ Reach (now inside) (now beside) w h r × (r .over ≤ 16384) × (r .inside ≤ 16384) × (r .under ≤ 16384) ⌝ }
+    requires { ⌜ Reach (now inside) (now beside) w h r × (r .over ≤ 20000) × (r .inside ≤ 20000) × (r .under ≤ 20000) ⌝ }
     ensures { λ _. ⌜ now (dst .exit) ≡ rows (λ k j. getD (sourceRow (now (inside .entry)) (now (beside .entry)) w r (standard_fetch.near h y0 k)) (standard_fetch.near w x0 j) (pos 0)) 0 m m n (now (dst .entry)) ⌝ }
 {
     let mut k = 0;

@@ -22,9 +22,9 @@ shownAt d kind inside beside w h r y x = pos (restored d y kind (viewAt inside b
 pub record Fetchable (m : ℕ) (inside beside : List ℤ) (w h : ℕ) (r : Source) : Type 0 where
   pub reach : Reach inside beside w h r
   pub legal : (y : ℕ) → y < h → Samples m 0 w (sourceRow inside beside w r y)
-  pub over-low : r .over ≤ 16384
-  pub inside-low : r .inside ≤ 16384
-  pub under-low : r .under ≤ 16384
+  pub over-low : r .over ≤ 20000
+  pub inside-low : r .inside ≤ 20000
+  pub under-low : r .under ≤ 20000
 
 -- the sides of a plane, and a rectangle of it that a filter can take
 pub record Sides (w h : ℕ) : Type 0 where
