@@ -6,7 +6,7 @@ ghost use lib.IntN.{pos, natAbs};
 ghost use lib.Signed.{_≤ℤ_};
 ghost use lib.Dec.{eqb};
 ghost use lib.ListN.{length, getD};
-ghost use Rattle.laws.specs.Bounds.{Samples};
+ghost use Rattle.counted.specs.Whole.{Whole};
 ghost use Rattle.standard.specs.Arithmetic.{sum};
 
 // 1 where two samples differ, 0 where they are equal.
@@ -23,7 +23,7 @@ fn differs(a: i32, b: i32) -> u32
 // The places where the restored plane differs from the CDEF plane.
 pub fn count_changed(out: &[i32], cdef: &[i32]) -> u32
     requires { ⌜ (length (now out) ≡ length (now cdef)) × (length (now cdef) ≤ 268435456) ⌝ }
-    requires { ⌜ Samples 4095 0 (length (now out)) (now out) × Samples 4095 0 (length (now cdef)) (now cdef) ⌝ }
+    requires { ⌜ Whole (now out) × Whole (now cdef) ⌝ }
     ensures { λ r. ⌜ r ≡ sum (length (now (cdef .entry))) (λ n. cond (eqb (natAbs (getD (now (out .entry)) n (pos 0))) (natAbs (getD (now (cdef .entry)) n (pos 0)))) 0 1) ⌝ }
 {
     let mut count: u32 = 0;

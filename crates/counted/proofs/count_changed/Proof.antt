@@ -61,7 +61,7 @@ shared-slice-copy-out-differs-2 c = omega arith
 
 differs-requires : tie.Need-differs-requires Inv-loop μ-loop
 differs-requires c κs = let k = c .before .before .before .loop .n in let p = c .before .before .before .before .pre in
-    (of-read (λ z. pos 0 ≤ℤ z) (returned w32 (c .before .differs-arg .given) refl) (p .1 .0 .low k (omega arith) (omega arith)), of-read (λ z. pos 0 ≤ℤ z) (returned w32 (c .differs-arg2 .given) refl) (p .1 .1 .low k (omega arith) (omega arith)))
+    (of-read (λ z. pos 0 ≤ℤ z) (returned w32 (c .before .differs-arg .given) refl) (p .1 .0 .low k (omega arith)), of-read (λ z. pos 0 ≤ℤ z) (returned w32 (c .differs-arg2 .given) refl) (p .1 .1 .low k (omega arith)))
 
 add-count : tie.Need-add-count Inv-loop μ-loop
 add-count c = omega (arith, found c, differ-most (c .before .before .before .before .before .args .out .now) (c .before .before .before .before .before .args .cdef .now) (c .before .before .before .before .loop .n))
