@@ -1,4 +1,5 @@
-//! Finds the reference, checks that it is the expected text and names it to the compiler.
+//! Finds the reference, checks that it is the expected text and names it to the compiler; with the
+//! feature `host` names the static library to the linker.
 
 use std::env;
 use std::fs;
@@ -21,6 +22,39 @@ fn main() {
         }
         Err(message) => println!("cargo::error={message}"),
     }
+    if env::var_os("CARGO_FEATURE_HOST").is_some() {
+        if let Err(message) = link_library(&library()) {
+            println!("cargo::error={message}");
+        }
+    }
+}
+
+/// The archive that `CIRONETOP_HOST` names, or else the one that `rt staticlib host` writes.
+fn library() -> PathBuf {
+    println!("cargo::rerun-if-env-changed=CIRONETOP_HOST");
+    let manifest = PathBuf::from(env::var_os("CARGO_MANIFEST_DIR").expect("cargo sets it"));
+    match env::var_os("CIRONETOP_HOST") {
+        Some(archive) => PathBuf::from(archive),
+        None => manifest.join("../target/staticlib/libhost.a"),
+    }
+}
+
+fn link_library(archive: &Path) -> Result<(), String> {
+    println!("cargo::rerun-if-changed={}", archive.display());
+    if env::var("CARGO_CFG_TARGET_ARCH").as_deref() != Ok("x86_64") {
+        return Err(
+            "The static library is for x86-64: build with tools/host, which knows how.".into()
+        );
+    }
+    let wrong =
+        || format!("There is no archive libNAME.a at {}: tools/host makes it.", archive.display());
+    let place = archive.canonicalize().map_err(|_| wrong())?;
+    let file = place.file_name().and_then(|name| name.to_str()).ok_or_else(wrong)?;
+    let name = file.strip_prefix("lib").and_then(|rest| rest.strip_suffix(".a"));
+    let folder = place.parent().ok_or_else(wrong)?;
+    println!("cargo::rustc-link-search=native={}", folder.display());
+    println!("cargo::rustc-link-lib=static={}", name.ok_or_else(wrong)?);
+    Ok(())
 }
 
 fn reference_folder() -> PathBuf {

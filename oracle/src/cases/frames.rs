@@ -16,6 +16,34 @@ pub fn frame_around(rng: &mut Rng, width: u32, height: u32) -> Frame {
     frame
 }
 
+/// A frame whose plane ends around the edge of a unit and of a stripe, of some thousand samples;
+/// now and then a larger one.
+pub fn frame_at_edges(rng: &mut Rng) -> Frame {
+    let mut frame = frame_in_domain(rng, 1, 1);
+    let (sub_x, sub_y) = frame.plane_sub();
+    let most = if rng.one_in(40) { 40_000 } else { 6_000 };
+    let height = (rng.pick(&ROWS_OF_NOTE) >> (sub_y * rng.below(2))).max(1);
+    let width = around_units(rng, frame.unit_size).min(most / height);
+    frame.upscaled_width = side_around(rng, width, sub_x);
+    frame.frame_height = side_around(rng, height, sub_y);
+    frame
+}
+
+/// Heights at which a stripe, or half of one, starts or ends.
+const ROWS_OF_NOTE: [u32; 24] = [
+    1, 2, 7, 8, 9, 27, 28, 29, 54, 55, 56, 57, 58, 63, 64, 65, 95, 96, 119, 120, 121, 122, 184, 185,
+];
+
+/// A width near a place where one more unit starts, or a small one.
+fn around_units(rng: &mut Rng, size: u32) -> u32 {
+    let whole = size * rng.below(4) + size / 2 * rng.below(2);
+    match rng.below(3) {
+        0 => 1 + rng.below(40),
+        1 => (whole + rng.below(3)).saturating_sub(1).max(1),
+        _ => 1 + rng.below(4 * size),
+    }
+}
+
 /// A frame of the given sides; all else is any legal choice, the frame type 1 to 3.
 pub fn frame_in_domain(rng: &mut Rng, upscaled_width: u32, frame_height: u32) -> Frame {
     let plane = rng.below(3);

@@ -5,7 +5,9 @@ mod planes;
 mod scalings;
 mod windows;
 
-pub use frames::{frame_around, frame_in_domain, SIZES_OF_NOTE};
+pub use frames::{frame_around, frame_at_edges, frame_in_domain, SIZES_OF_NOTE};
 pub use planes::{plane_case, stripe_order, unrestored_case, PlaneCase};
-pub use scalings::{copy_case, upscale_case, widths_of_note, UpscaleCase};
+pub use scalings::{
+    copy_case, frame_widths_case, padded_case, upscale_case, widths_of_note, UpscaleCase,
+};
 pub use windows::{sample_case, SampleCase};

@@ -31,6 +31,36 @@ pub fn upscale_case(rng: &mut Rng, d: u32, u: u32, height: u32) -> UpscaleCase {
     filled(rng, scaling)
 }
 
+/// Upscales two rows from width `d` to `u` at the given subsampling across, with that many columns
+/// past the plane.
+pub fn padded_case(rng: &mut Rng, sub_x: u32, (d, u): (u32, u32), padding: u32) -> UpscaleCase {
+    let mut scaling = shapeless(rng);
+    scaling.plane = if sub_x == 1 { 1 + rng.below(2) } else { rng.below(3) };
+    (scaling.sub_x, scaling.sub_y) = (sub_x, sub_x * rng.below(2));
+    scaling.use_superres = 1;
+    scaling.frame_width = (d << sub_x) - narrower(rng, sub_x);
+    scaling.upscaled_width = (u << sub_x) - narrower(rng, sub_x);
+    scaling.frame_height = 2;
+    let (_, _, height) = scaling.plane_sides();
+    (scaling.in_rows, scaling.in_cols) = (height, d + padding);
+    (scaling.out_rows, scaling.out_cols) = (height, u);
+    filled(rng, scaling)
+}
+
+/// Any two frame widths with the flag set: the plane may grow, stay or shrink.
+pub fn frame_widths_case(rng: &mut Rng, sub_x: u32, widths: (u32, u32)) -> UpscaleCase {
+    let mut scaling = shapeless(rng);
+    scaling.plane = sub_x * (1 + rng.below(2));
+    (scaling.sub_x, scaling.sub_y) = (sub_x, 0);
+    scaling.use_superres = 1 + rng.below(2) * (u32::MAX - 1);
+    (scaling.frame_width, scaling.upscaled_width) = widths;
+    scaling.frame_height = 1;
+    let (d, u, height) = scaling.plane_sides();
+    (scaling.in_rows, scaling.in_cols) = (height, d);
+    (scaling.out_rows, scaling.out_cols) = (height, u);
+    filled(rng, scaling)
+}
+
 /// A copy: the flag is clear, or the frame widths are equal. Only the two shapes have to agree.
 pub fn copy_case(rng: &mut Rng, rows: u32, cols: u32) -> UpscaleCase {
     let mut scaling = shapeless(rng);

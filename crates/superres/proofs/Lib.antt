@@ -1,0 +1,10 @@
+pub mod Laws
+pub mod Dot
+pub mod Counts
+pub mod Edges
+pub mod Rows
+pub mod Conditions
+pub mod Blocks
+pub mod Clean
+pub mod Planes
+pub mod Theorems
