@@ -40,7 +40,7 @@ fn bad_shape(f: Frame, deblocked: usize, cdef: usize, out: usize) -> bool
 }
 
 // 10: the table is not ten numbers for each unit.
-fn bad_table(f: Frame, table: usize) -> bool
+pub fn bad_table(f: Frame, table: usize) -> bool
     requires { ⌜ first (countTests f) ≡ 0 ⌝ }
     ensures { λ r. ⌜ r ≡ no10 (f .«unit_size») (planeHeight f) (planeWidth f) table ⌝ }
 {
@@ -51,7 +51,7 @@ fn bad_table(f: Frame, table: usize) -> bool
 }
 
 // 11: an entry of the table is not legal.
-fn some_illegal(plane: u32, table: &[i32]) -> bool
+pub fn some_illegal(plane: u32, table: &[i32]) -> bool
     ensures { λ r. ⌜ r ≡ no11 plane (now (table .entry)) ⌝ }
 {
     first_illegal(plane, table) < table.len() / 10
@@ -69,7 +69,7 @@ fn bad_samples(depth: u32, deblocked: &[i32], cdef: &[i32]) -> bool
 }
 
 // 16: the scratch is shorter than the largest rectangle needs.
-fn short_scratch(f: Frame, scratch: usize) -> bool
+pub fn short_scratch(f: Frame, scratch: usize) -> bool
     requires { ⌜ (no2 (f .plane) (f .«sub_x») (f .«sub_y») ≡ false) × (no4 (f .«frame_height») ≡ false) × (no4 (f .«upscaled_width») ≡ false) ⌝ }
     ensures { λ r. ⌜ r ≡ ltb scratch (scratchNeed (subY f) (planeHeight f) (planeWidth f)) ⌝ }
 {
