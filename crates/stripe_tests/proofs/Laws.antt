@@ -75,7 +75,7 @@ rows-of {f = f} n s l =
     }
 
 -- rows start .. stop of a plane of h rows lie in it
-rows-fit : (h w start stop : ℕ) → start ≤ stop → stop ≤ h → start * w + (stop - start) * w ≤ h * w
+pub rows-fit : (h w start stop : ℕ) → start ≤ stop → stop ≤ h → start * w + (stop - start) * w ≤ h * w
 rows-fit h w start stop p q =
     omega (arith, add-mul start (stop - start) w, ap (λ (n : ℕ). n * w) {x = start + (stop - start)} {y = stop} (omega arith), mul-le-mul {n₁ = stop} {m₁ = w} {n₂ = h} {m₂ = w} q (omega arith))
 

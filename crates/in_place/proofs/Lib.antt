@@ -1,0 +1,3 @@
+pub mod Ranges
+pub mod Stripe
+pub mod Answers
