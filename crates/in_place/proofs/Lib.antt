@@ -1,3 +1,5 @@
 pub mod Ranges
 pub mod Stripe
 pub mod Answers
+pub mod Theorems
+pub mod Damage
