@@ -13,11 +13,11 @@ use Rattle.standard.specs.Stripes.{stripeStart, stripeOf, stripes}
 use Rattle.standard.specs.Planes.{edgeRow, capturedSlice}
 use Rattle.standard.proofs.Stripes.{Halved, full, half}
 
--- a later stripe starts at row 2 or after it
-pub start-two : {sy : ℕ} → Halved sy → (s : ℕ) → 1 ≤ s → 2 ≤ stripeStart sy s
+-- a later stripe starts at row 28 or after it
+pub start-later : {sy : ℕ} → Halved sy → (s : ℕ) → 1 ≤ s → 28 ≤ stripeStart sy s
 unfolding stripeStart
-start-two full s p = omega arith
-start-two half s p = omega arith
+start-later full s p = omega arith
+start-later half s p = omega arith
 
 pub some-stripe : (sy h : ℕ) → 1 ≤ stripes sy h
 unfolding stripes

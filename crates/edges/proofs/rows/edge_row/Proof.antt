@@ -1,10 +1,10 @@
--- The sum stays above 2, since a later stripe starts at row 2 or after it.
+-- The sum stays above 2, since a later stripe starts at row 28 or after it.
 use Prim.Native.Nat.{ℕ, _+_, _-_, min}
 use mathlib.Core.Path.{_∙_, ap}
 use native.Mathlib.Omega.{arith}
 use Rattle.standard.specs.Planes.{edgeRow}
 use Rattle.frames.proofs.Legal.{halved}
-use Rattle.edges.proofs.Laws.{start-two}
+use Rattle.edges.proofs.Laws.{start-later}
 use borrow.Author.Needs.{needs}
 use Rattle.edges.proofs.rows.edge_row.Statement.{statement}
 use Rattle.edges.proofs.rows.edge_row.Tie as tie
@@ -19,7 +19,7 @@ add-least : tie.Need-add-least
 add-least c = search needs
 
 sub-least : tie.Need-sub-least
-sub-least c = let s = c .before in omega (arith, c .stripe-start .ensures, start-two (halved _ (s .pre .0)) (s .args .s) (s .pre .1))
+sub-least c = let s = c .before in omega (arith, c .stripe-start .ensures, start-later (halved _ (s .pre .0)) (s .args .s) (s .pre .1))
 
 sub-least-2 : tie.Need-sub-least-2
 sub-least-2 c = search needs
