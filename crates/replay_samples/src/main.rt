@@ -1,4 +1,4 @@
-// Replays the recorded samples of the reference, and prints how many records differ.
+// Replays recorded samples of the reference and of real decoders, and prints how many records differ.
 mod entries; // entries.rt: the 16-bit entries of a record
 
 use crate::entries::entry;
@@ -64,28 +64,48 @@ fn some_samples(fd: i32) -> Tally
     }
 }
 
+// Four arrays hold a file; the count that is printed tells that there is no more.
+fn all_samples(fd: i32) -> Tally {
+    let a = some_samples(fd);
+    let b = some_samples(fd);
+    let c = some_samples(fd);
+    let d = some_samples(fd);
+    libc::close(fd);
+    Tally {
+        records: a.records + b.records + c.records + d.records,
+        wrong: a.wrong + b.wrong + c.wrong + d.wrong,
+    }
+}
+
 fn print(t: Tally) {
-    io::write_all(STDOUT_FILENO, b"samples ");
     io::print_decimal(STDOUT_FILENO, t.records as u64);
     io::write_all(STDOUT_FILENO, b" mismatches ");
     io::print_decimal(STDOUT_FILENO, t.wrong as u64);
     io::write_all(STDOUT_FILENO, b"\n");
 }
 
-// Four arrays hold the file; the count that is printed tells that there is no more.
-fn main() {
+fn reference() {
     let fd = os::open_read(b"samples.rec");
     if fd < 0 {
         os::fail(b"samples.rec");
         return;
     }
-    let a = some_samples(fd);
-    let b = some_samples(fd);
-    let c = some_samples(fd);
-    let d = some_samples(fd);
-    libc::close(fd);
-    print(Tally {
-        records: a.records + b.records + c.records + d.records,
-        wrong: a.wrong + b.wrong + c.wrong + d.wrong,
-    });
+    io::write_all(STDOUT_FILENO, b"samples ");
+    print(all_samples(fd));
+}
+
+fn decoders() {
+    let fd = os::open_read(b"decoders.samples");
+    if fd < 0 {
+        os::fail(b"decoders.samples");
+        return;
+    }
+    io::write_all(STDOUT_FILENO, b"samples of decoders ");
+    print(all_samples(fd));
+}
+
+// What the reference answered, and what real decoders' pictures hold.
+fn main() {
+    reference();
+    decoders();
 }
