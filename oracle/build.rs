@@ -29,22 +29,26 @@ fn main() {
     }
 }
 
-/// The archive that `CIRONETOP_HOST` names, or else the one that `rt staticlib host` writes.
+/// The archive that `CIRONETOP_HOST` names, or else the one that `rt staticlib host` writes, or
+/// `tools/native` for aarch64.
 fn library() -> PathBuf {
     println!("cargo::rerun-if-env-changed=CIRONETOP_HOST");
     let manifest = PathBuf::from(env::var_os("CARGO_MANIFEST_DIR").expect("cargo sets it"));
     match env::var_os("CIRONETOP_HOST") {
         Some(archive) => PathBuf::from(archive),
+        None if target() == "aarch64" => manifest.join("../target/native/libhost.a"),
         None => manifest.join("../target/staticlib/libhost.a"),
     }
 }
 
+fn target() -> String {
+    env::var("CARGO_CFG_TARGET_ARCH").expect("cargo sets it")
+}
+
 fn link_library(archive: &Path) -> Result<(), String> {
     println!("cargo::rerun-if-changed={}", archive.display());
-    if env::var("CARGO_CFG_TARGET_ARCH").as_deref() != Ok("x86_64") {
-        return Err(
-            "The static library is for x86-64: build with tools/host, which knows how.".into()
-        );
+    if !["x86_64", "aarch64"].contains(&target().as_str()) {
+        return Err("The static library is for x86-64, and by tools/native for aarch64.".into());
     }
     let wrong =
         || format!("There is no archive libNAME.a at {}: tools/host makes it.", archive.display());
