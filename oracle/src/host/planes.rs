@@ -3,6 +3,7 @@
 use super::lent::Lent;
 use crate::calls::PlaneCall;
 use crate::frame::Frame;
+use std::mem::take;
 
 #[repr(C)]
 #[derive(Clone, Copy, Debug, PartialEq, Eq)]
@@ -27,12 +28,27 @@ extern "C" {
     ) -> Restored;
 }
 
+/// The call between margins that no call may touch.
 pub fn restore_plane(call: &mut PlaneCall) -> Restored {
-    let mut lent_out = Lent::new(&call.out, i32::MIN);
-    let mut lent_scratch = Lent::new(&call.scratch, i32::MIN);
-    let (out, scratch) = (lent_out.numbers(), lent_scratch.numbers());
+    let mut out = Lent::new(&call.out, i32::MIN);
+    let mut scratch = Lent::new(&call.scratch, i32::MIN);
+    let answer = on_slices(call, out.numbers(), scratch.numbers());
+    call.out = out.back(i32::MIN);
+    call.scratch = scratch.back(i32::MIN);
+    answer
+}
+
+/// The call on its own slices, with nothing copied: what can be timed.
+pub fn restore_plane_bare(call: &mut PlaneCall) -> Restored {
+    let (mut out, mut scratch) = (take(&mut call.out), take(&mut call.scratch));
+    let answer = on_slices(call, &mut out, &mut scratch);
+    (call.out, call.scratch) = (out, scratch);
+    answer
+}
+
+fn on_slices(call: &PlaneCall, out: &mut [i32], scratch: &mut [i32]) -> Restored {
     // SAFETY: every slice is that long; both mutable ones are buffers of their own.
-    let answer = unsafe {
+    unsafe {
         cironetop_restore_plane(
             call.frame,
             call.units.as_ptr(),
@@ -46,8 +62,5 @@ pub fn restore_plane(call: &mut PlaneCall) -> Restored {
             scratch.as_mut_ptr(),
             scratch.len(),
         )
-    };
-    call.out = lent_out.back(i32::MIN);
-    call.scratch = lent_scratch.back(i32::MIN);
-    answer
+    }
 }

@@ -1,20 +1,14 @@
-//! cironetop_capture_edges, cironetop_restore_stripe.
+//! cironetop_restore_stripe.
 
 use super::lent::Lent;
-use crate::calls::{CaptureCall, StripeCall};
+use crate::calls::StripeCall;
 use crate::frame::Frame;
+use std::mem::take;
 
 /// Margins of marks: no legal mark.
 const NO_MARK: u8 = 0xa5;
 
 extern "C" {
-    fn cironetop_capture_edges(
-        f: Frame,
-        deblocked: *const i32,
-        deblocked_len: usize,
-        edges: *mut i32,
-        edges_len: usize,
-    ) -> u32;
     fn cironetop_restore_stripe(
         f: Frame,
         stripe: u32,
@@ -33,27 +27,38 @@ extern "C" {
     ) -> u32;
 }
 
-pub fn capture_edges(call: &mut CaptureCall) -> u32 {
-    let mut lent = Lent::new(&call.edges, i32::MIN);
-    let edges = lent.numbers();
-    let (deblocked, len) = (call.deblocked.as_ptr(), call.deblocked.len());
-    // SAFETY: both slices are that long; the mutable one is a buffer of its own.
-    let number = unsafe {
-        cironetop_capture_edges(call.frame, deblocked, len, edges.as_mut_ptr(), edges.len())
-    };
-    call.edges = lent.back(i32::MIN);
+/// The call between margins that no call may touch.
+pub fn restore_stripe(call: &mut StripeCall) -> u32 {
+    let mut plane = Lent::new(&call.plane, i32::MIN);
+    let mut marks = Lent::new(&call.marks, NO_MARK);
+    let mut scratch = Lent::new(&call.scratch, i32::MIN);
+    let mut copy = Lent::new(&call.copy, i32::MIN);
+    let rooms = (scratch.numbers(), copy.numbers());
+    let number = on_slices(call, plane.numbers(), marks.numbers(), rooms);
+    call.plane = plane.back(i32::MIN);
+    call.marks = marks.back(NO_MARK);
+    call.scratch = scratch.back(i32::MIN);
+    call.copy = copy.back(i32::MIN);
     number
 }
 
-pub fn restore_stripe(call: &mut StripeCall) -> u32 {
-    let mut planes = Lent::new(&call.plane, i32::MIN);
-    let mut marked = Lent::new(&call.marks, NO_MARK);
-    let mut scratches = Lent::new(&call.scratch, i32::MIN);
-    let mut copies = Lent::new(&call.copy, i32::MIN);
-    let (plane, marks) = (planes.numbers(), marked.numbers());
-    let (scratch, copy) = (scratches.numbers(), copies.numbers());
+/// The call on its own slices, with nothing copied: what can be timed.
+pub fn restore_stripe_bare(call: &mut StripeCall) -> u32 {
+    let (mut plane, mut marks) = (take(&mut call.plane), take(&mut call.marks));
+    let (mut scratch, mut copy) = (take(&mut call.scratch), take(&mut call.copy));
+    let number = on_slices(call, &mut plane, &mut marks, (&mut scratch, &mut copy));
+    (call.plane, call.marks, call.scratch, call.copy) = (plane, marks, scratch, copy);
+    number
+}
+
+fn on_slices(
+    call: &StripeCall,
+    plane: &mut [i32],
+    marks: &mut [u8],
+    (scratch, copy): (&mut [i32], &mut [i32]),
+) -> u32 {
     // SAFETY: every slice is that long; the mutable ones are buffers of their own.
-    let number = unsafe {
+    unsafe {
         cironetop_restore_stripe(
             call.frame,
             call.stripe,
@@ -70,10 +75,5 @@ pub fn restore_stripe(call: &mut StripeCall) -> u32 {
             copy.as_mut_ptr(),
             copy.len(),
         )
-    };
-    call.plane = planes.back(i32::MIN);
-    call.marks = marked.back(NO_MARK);
-    call.scratch = scratches.back(i32::MIN);
-    call.copy = copies.back(i32::MIN);
-    number
+    }
 }
