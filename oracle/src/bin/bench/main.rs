@@ -1,6 +1,7 @@
 //! How fast the library is beside the reference: ratios of times that are taken in turns in one run, each pair of calls on the same
 //! arguments and held to the same answer. No time is printed, since it would say more of the machine than of the code.
 
+mod clock;
 mod edges;
 mod filters;
 mod pictures;

@@ -1,7 +1,7 @@
 //! Times taken in turns.
 
+use crate::clock::now;
 use oracle::report::Report;
-use std::time::Instant;
 
 /// A call of the reference and one of the library on the same arguments.
 pub trait Pair {
@@ -32,10 +32,10 @@ impl Effort {
 
     /// The best time of each of `count` calls, which are called in turns; a call gives its own time.
     pub fn best(&self, count: usize, mut call: impl FnMut(usize) -> f64) -> Vec<f64> {
-        let start = Instant::now();
+        let start = now();
         let mut best = vec![f64::INFINITY; count];
         let mut round = 0;
-        while round < self.rounds || start.elapsed().as_secs_f64() < self.seconds {
+        while round < self.rounds || now() - start < self.seconds {
             for (which, least) in best.iter_mut().enumerate() {
                 *least = least.min(call(which));
             }
@@ -72,7 +72,7 @@ pub fn library(pair: &mut impl Pair) -> f64 {
 }
 
 fn timed(call: impl FnOnce()) -> f64 {
-    let start = Instant::now();
+    let start = now();
     call();
-    start.elapsed().as_secs_f64()
+    now() - start
 }
