@@ -29,8 +29,8 @@ use Rattle.frames.proofs.Conditions.{sub-small}
 use Rattle.superres.specs.Scaled.{Fit}
 use Rattle.superres.specs.Sides.{Sided}
 use Rattle.superres.proofs.Conditions.{sided}
-use Rattle.superres.proofs.Counts.{top-is}
 use Rattle.superres.proofs.Laws.{start-small, step-small, place-small}
+use Rattle.superres.proofs.Top.{top-is}
 
 pub record Clean (s : Scaling) (input : List ℤ) (out : ℕ) : Type 0 where
   pub depth : no1 (s .depth) ≡ false

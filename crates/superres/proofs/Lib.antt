@@ -1,6 +1,6 @@
 pub mod Laws
 pub mod Dot
-pub mod Counts
+pub mod Top
 pub mod Edges
 pub mod Rows
 pub mod Conditions

@@ -1,6 +1,5 @@
 -- What the inner functions promise: one output sample from a start, a step and a row of integers, all in natural numbers. `proofs` shows
 -- that it is the definition of `standard`.
-use mathlib.Core.Bool.{cond}
 use mathlib.Core.List.{List}
 use Prim.Native.Nat.{ℕ, _+_, _-_, _*_, _/_, _%_, _≤_, _<_, min}
 use lib.IntN.{ℤ, pos, _*ℤ_}
@@ -8,12 +7,7 @@ use lib.ListN.{length, getD}
 use mathlib.Core.Path.{_≡_}
 use Rattle.laws.specs.Bounds.{Sized}
 use Rattle.standard.specs.Arithmetic.{round2, clipTo, sumℤ}
-use Rattle.standard.specs.Units.{between}
 use Rattle.standard.specs.UpscaleFilter.{upTap}
-
--- 1 for a number outside 0 .. top
-abbrev pub out : ℤ → ℤ → ℕ
-out top x = cond (between (pos 0) top x) 0 1
 
 -- whole part, one up, and phase of column x
 abbrev pub placeAt : ℕ → ℕ → ℕ → ℕ
