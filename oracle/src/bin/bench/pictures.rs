@@ -4,14 +4,14 @@ use oracle::calls::PlaneCall;
 use oracle::cases::PlaneCase;
 use oracle::frame::{largest_sample, Frame};
 use oracle::rng::Rng;
-use oracle::units::{self, OuterTaps, ENTRY, SELF_GUIDED, WIENER};
+use oracle::units::{self, Unit, NONE, SELF_GUIDED, WIENER};
 
 /// Which units a plane has.
 #[derive(Clone, Copy)]
 pub enum Units {
     Wiener,
     Guided(i32),
-    /// Of every type, none among them.
+    /// A third each of Wiener, self-guided by every set, and none.
     Mixed,
 }
 
@@ -28,18 +28,19 @@ impl Units {
     }
 
     fn table(self, rng: &mut Rng, count: usize) -> Vec<i32> {
+        (0..count).flat_map(|place| self.entry(rng, place)).collect()
+    }
+
+    /// Mixed units go through types and sets in turn, so that planes of all sizes have the same shares of them.
+    fn entry(self, rng: &mut Rng, place: usize) -> Unit {
         let (kind, set) = match self {
-            Units::Mixed => return units::table(rng, count, OuterTaps::Any),
             Units::Wiener => (WIENER, 0),
             Units::Guided(set) => (SELF_GUIDED, set),
+            Units::Mixed => ([WIENER, SELF_GUIDED, NONE][place % 3], place as i32 / 3 % 16),
         };
-        let mut numbers = Vec::with_capacity(count * ENTRY);
-        for _ in 0..count {
-            let mut entry = units::unit(rng, kind);
-            entry[7] = set;
-            numbers.extend(entry);
-        }
-        numbers
+        let mut entry = units::unit(rng, kind);
+        entry[7] = set;
+        entry
     }
 }
 
