@@ -15,7 +15,11 @@ use Rattle.standard.specs.declared.Stored.{Stored}
 use Rattle.standard.specs.declared.Counted.{Counted}
 use Rattle.standard.specs.declared.Placed.{Placed}
 use Rattle.standard.specs.declared.Sampled.{Sampled}
-use Rattle.standard.specs.Answers.{refusalNumber, ofRestored, ofStored, ofCounted, ofPlaced, ofSampled}
+use Rattle.standard.specs.declared.JobRefusal.{JobRefusal}
+use Rattle.standard.specs.declared.JobRefusal.the-variants.{NoJob, OverBound, Table}
+use Rattle.standard.specs.declared.JobRead.{JobRead}
+use Rattle.standard.specs.declared.JobRan.{JobRan}
+use Rattle.standard.specs.Answers.{refusalNumber, ofRestored, ofStored, ofCounted, ofPlaced, ofSampled, jobRefusalNumber, ofJobRead, ofJobRan}
 
 -- the refusal of a number, from the table's order
 unfoldable pub refusalOf : ℕ → Refusal
@@ -23,24 +27,24 @@ refusalOf n = getD
     (BadDepth ∷ BadPlane ∷ BadFrameType ∷ BadFrameSide ∷ BadUnitSize ∷ WidthShrinks ∷ BadShape ∷ NotWider ∷
     BadEdgeRows ∷ BadUnitTable ∷ BadUnit ∷ BadMarks ∷ BadIndex ∷ AlreadyRestored ∷ BadSample ∷ ShortScratch ∷ []) (n - 1) BadDepth
 
-pub refusal-back : (a : Refusal) → (refusalOf (refusalNumber a) ≡ a) × (1 ≤ refusalNumber a)
+pub refusal-back : (a : Refusal) → (refusalOf (refusalNumber a) ≡ a) × (1 ≤ refusalNumber a) × (refusalNumber a ≤ 16)
 unfolding refusalOf refusalNumber
-refusal-back BadDepth = (refl, omega arith)
-refusal-back BadPlane = (refl, omega arith)
-refusal-back BadFrameType = (refl, omega arith)
-refusal-back BadFrameSide = (refl, omega arith)
-refusal-back BadUnitSize = (refl, omega arith)
-refusal-back WidthShrinks = (refl, omega arith)
-refusal-back BadShape = (refl, omega arith)
-refusal-back NotWider = (refl, omega arith)
-refusal-back BadEdgeRows = (refl, omega arith)
-refusal-back BadUnitTable = (refl, omega arith)
-refusal-back BadUnit = (refl, omega arith)
-refusal-back BadMarks = (refl, omega arith)
-refusal-back BadIndex = (refl, omega arith)
-refusal-back AlreadyRestored = (refl, omega arith)
-refusal-back BadSample = (refl, omega arith)
-refusal-back ShortScratch = (refl, omega arith)
+refusal-back BadDepth = (refl, omega arith, omega arith)
+refusal-back BadPlane = (refl, omega arith, omega arith)
+refusal-back BadFrameType = (refl, omega arith, omega arith)
+refusal-back BadFrameSide = (refl, omega arith, omega arith)
+refusal-back BadUnitSize = (refl, omega arith, omega arith)
+refusal-back WidthShrinks = (refl, omega arith, omega arith)
+refusal-back BadShape = (refl, omega arith, omega arith)
+refusal-back NotWider = (refl, omega arith, omega arith)
+refusal-back BadEdgeRows = (refl, omega arith, omega arith)
+refusal-back BadUnitTable = (refl, omega arith, omega arith)
+refusal-back BadUnit = (refl, omega arith, omega arith)
+refusal-back BadMarks = (refl, omega arith, omega arith)
+refusal-back BadIndex = (refl, omega arith, omega arith)
+refusal-back AlreadyRestored = (refl, omega arith, omega arith)
+refusal-back BadSample = (refl, omega arith, omega arith)
+refusal-back ShortScratch = (refl, omega arith, omega arith)
 
 pub refusal-once : (a b : Refusal) → refusalNumber a ≡ refusalNumber b → a ≡ b
 refusal-once a b e = sym (refusal-back a .0) ∙ ap refusalOf e ∙ refusal-back b .0
@@ -81,3 +85,34 @@ sampled-once (Sampled.Done a) (Sampled.Refused b) e = absurd (minus (refusalNumb
 sampled-once (Sampled.Refused a) (Sampled.Done b) e = absurd (minus (refusalNumber a) b (refusal-back a .1) e)
 sampled-once (Sampled.Refused a) (Sampled.Refused b) e =
     ap Sampled.Refused (refusal-once a b (sym (abs-neg (pos (refusalNumber a))) ∙ ap natAbs e ∙ abs-neg (pos (refusalNumber b))))
+
+-- ---- jobs: 17 and 18 are no numbers of the table
+pub job-refusal-once : (a b : JobRefusal) → jobRefusalNumber a ≡ jobRefusalNumber b → a ≡ b
+unfolding jobRefusalNumber
+job-refusal-once NoJob NoJob e = refl
+job-refusal-once NoJob OverBound e = absurd (omega arith)
+job-refusal-once NoJob (Table b) e = absurd (omega (arith, refusal-back b .2))
+job-refusal-once OverBound NoJob e = absurd (omega arith)
+job-refusal-once OverBound OverBound e = refl
+job-refusal-once OverBound (Table b) e = absurd (omega (arith, refusal-back b .2))
+job-refusal-once (Table a) NoJob e = absurd (omega (arith, refusal-back a .2))
+job-refusal-once (Table a) OverBound e = absurd (omega (arith, refusal-back a .2))
+job-refusal-once (Table a) (Table b) e = ap Table (refusal-once a b e)
+
+pub job-refused : (a : JobRefusal) → 1 ≤ jobRefusalNumber a
+unfolding jobRefusalNumber
+job-refused NoJob = omega arith
+job-refused OverBound = omega arith
+job-refused (Table a) = refusal-back a .1
+
+pub job-read-once : (r s : JobRead) → ofJobRead r ≡ ofJobRead s → r ≡ s
+job-read-once (JobRead.Done a) (JobRead.Done b) e = ap JobRead.Done (ap (λ p. p .1) e)
+job-read-once (JobRead.Done a) (JobRead.Refused b) e = absurd (omega (arith, job-refused b, ap (λ p. p .0) e))
+job-read-once (JobRead.Refused a) (JobRead.Done b) e = absurd (omega (arith, job-refused a, ap (λ p. p .0) e))
+job-read-once (JobRead.Refused a) (JobRead.Refused b) e = ap JobRead.Refused (job-refusal-once a b (ap (λ p. p .0) e))
+
+pub job-ran-once : (r s : JobRan) → ofJobRan r ≡ ofJobRan s → r ≡ s
+job-ran-once (JobRan.Done a) (JobRan.Done b) e = ap JobRan.Done (ap (λ p. p .1) e)
+job-ran-once (JobRan.Done a) (JobRan.Refused b) e = absurd (omega (arith, job-refused b, ap (λ p. p .0) e))
+job-ran-once (JobRan.Refused a) (JobRan.Done b) e = absurd (omega (arith, job-refused a, ap (λ p. p .0) e))
+job-ran-once (JobRan.Refused a) (JobRan.Refused b) e = ap JobRan.Refused (job-refusal-once a b (ap (λ p. p .0) e))

@@ -191,7 +191,7 @@ module _ (f : Frame) (table D : List ℤ) where
         go true n (inr r) = absurd (r (n tt))
         go false n o = e
 
-    length-run : (l : List StripeCall) (st : Lent) → Allowed l st → length (st .plane) ≡ planeHeight f * planeWidth f → length (run l st .plane) ≡ planeHeight f * planeWidth f
+    pub length-run : (l : List StripeCall) (st : Lent) → Allowed l st → length (st .plane) ≡ planeHeight f * planeWidth f → length (run l st .plane) ≡ planeHeight f * planeWidth f
     unfolding run
     length-run [] st a e = e
     length-run (c ∷ l) st a e = length-run l (afterStripe c st) (a .1) (length-after c st (a .0) e)

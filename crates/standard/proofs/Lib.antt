@@ -23,3 +23,5 @@ pub mod Frames
 -- Stripes in place
 pub mod Edges
 pub mod Demand3
+-- Jobs
+pub mod Job

@@ -10,6 +10,13 @@ use Rattle.standard.specs.declared.Counted.{Counted}
 use Rattle.standard.specs.declared.Geometry.{Geometry}
 use Rattle.standard.specs.declared.Placed.{Placed}
 use Rattle.standard.specs.declared.Sampled.{Sampled}
+use Rattle.standard.specs.declared.Frame.{Frame}
+use Rattle.standard.specs.declared.Sections.{Sections}
+use Rattle.standard.specs.declared.JobRefusal.{JobRefusal}
+use Rattle.standard.specs.declared.JobRefusal.the-variants.{NoJob, OverBound, Table}
+use Rattle.standard.specs.declared.JobRead.{JobRead}
+use Rattle.standard.specs.declared.Report.{Report}
+use Rattle.standard.specs.declared.JobRan.{JobRan}
 
 unfoldable pub refusalNumber : Refusal → ℕ
 refusalNumber BadDepth = 1
@@ -70,3 +77,28 @@ ofPlaced (Placed.Refused why) = (refusalNumber why, nowhere)
 abbrev pub ofSampled : Sampled → ℤ
 ofSampled (Sampled.Done sample) = pos sample
 ofSampled (Sampled.Refused why) = negℤ (pos (refusalNumber why))
+
+-- ---- jobs: the extra results, and the table's
+unfoldable pub jobRefusalNumber : JobRefusal → ℕ
+jobRefusalNumber NoJob = 17
+jobRefusalNumber OverBound = 18
+jobRefusalNumber (Table why) = refusalNumber why
+
+unfoldable pub noFrame : Frame
+noFrame = record { plane = 0; «sub_x» = 0; «sub_y» = 0; depth = 0; «frame_height» = 0; «upscaled_width» = 0; «unit_size» = 0; «frame_type» = 0 }
+
+unfoldable pub noSections : Sections
+noSections = record { frame = noFrame; units = 0; deblocked = 0; cdef = 0 }
+
+unfoldable pub noReport : Report
+noReport = record { plane = 0; width = 0; height = 0; stripes = 0; changed = 0; differs = 0 }
+
+-- the reader: number, frame and counts
+abbrev pub ofJobRead : JobRead → ℕ × Sections
+ofJobRead (JobRead.Done sections) = (0, sections)
+ofJobRead (JobRead.Refused why) = (jobRefusalNumber why, noSections)
+
+-- the job program: number and what it prints beside the rows
+abbrev pub ofJobRan : JobRan → ℕ × Report
+ofJobRan (JobRan.Done report) = (0, report)
+ofJobRan (JobRan.Refused why) = (jobRefusalNumber why, noReport)

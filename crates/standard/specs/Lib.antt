@@ -15,3 +15,5 @@ pub mod Units
 pub mod Refusals
 pub mod Answers
 pub mod Calls
+-- The job program
+pub mod Job

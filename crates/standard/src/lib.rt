@@ -132,3 +132,39 @@ pub enum Sampled {
     Done(u32),
     Refused(Refusal),
 }
+
+// A job as it is read: its frame numbers, and how many entries its other sections have.
+pub struct Sections {
+    pub frame: Frame,
+    pub units: usize,
+    pub deblocked: usize,
+    pub cdef: usize,
+}
+
+// Why a job is refused: bytes that are no job, a bound of the job program, or a number of the table.
+pub enum JobRefusal {
+    NoJob,
+    OverBound,
+    Table(Refusal),
+}
+
+// The answer of the reader of jobs.
+pub enum JobRead {
+    Done(Sections),
+    Refused(JobRefusal),
+}
+
+// What the job program prints of a job that is done, beside the restored rows.
+pub struct Report {
+    pub plane: u32,
+    pub width: u32,
+    pub height: u32,
+    pub stripes: u32,
+    pub changed: u32,
+    pub differs: u32,
+}
+
+pub enum JobRan {
+    Done(Report),
+    Refused(JobRefusal),
+}
