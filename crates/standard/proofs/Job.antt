@@ -18,6 +18,19 @@ use Rattle.standard.specs.Refusals.{wide, first}
 use Rattle.standard.specs.Units.{between}
 use Rattle.standard.specs.Job.{Job, entryBytes, section, frameEntries, jobEntries, jobBytes, unitCount, deblockedCount, cdefCount, signed16, frameOf, jobOf, no17, no18, formTests}
 
+-- ---- the extra results in their order: 18 for a longer input whatever its form, 17 for no job whatever its bounds, then 18
+pub longer-18 : (b : List ℕ) → 4160 < length b → first (formTests b) ≡ 18
+unfolding first formTests
+longer-18 b h = rw (lt-ltb 4160 (length b) h)
+
+pub no-job-17 : (b : List ℕ) → length b ≤ 4160 → no17 b ≡ true → first (formTests b) ≡ 17
+unfolding first formTests
+no-job-17 b h e = rw (le-ltb 4160 (length b) h, e)
+
+pub over-18 : (b : List ℕ) → length b ≤ 4160 → no17 b ≡ false → no18 (jobOf b) ≡ true → first (formTests b) ≡ 18
+unfolding first formTests
+over-18 b h e o = rw (le-ltb 4160 (length b) h, e, o)
+
 -- ---- entries and bytes
 pub length-bytes : (l : List ℕ) → length (entryBytes l) ≡ 2 * length l
 unfolding entryBytes

@@ -88,11 +88,14 @@ no18 j = ltb 8 (j .frame .«upscaled_width») || ltb 128 (j .frame .«frame_heig
 unfoldable pub formTests : List ℕ → List (ℕ × Bool)
 formTests b = (18, ltb 4160 (length b)) ∷ (17, no17 b) ∷ (18, no18 (jobOf b)) ∷ []
 
--- what the reader answers, and leaves in the room that is lent for a section: its entries, and past them what was there
-unfoldable pub openAnswer : List ℕ → ℕ × Sections
-openAnswer b =
-    let n = first (formTests b) in (n, ifDone n (record { frame = frameOf b; units = unitCount b; deblocked = deblockedCount b; cdef = cdefCount b }) noSections)
+-- what the reader answers: the number, or the frame numbers and how many entries each other section has
+unfoldable pub sectionsOf : List ℕ → Sections
+sectionsOf b = record { frame = frameOf b; units = unitCount b; deblocked = deblockedCount b; cdef = cdefCount b }
 
+unfoldable pub openAnswer : List ℕ → ℕ × Sections
+openAnswer b = let n = first (formTests b) in (n, ifDone n (sectionsOf b) noSections)
+
+-- what it leaves in the room that is lent for a section: the entries, and past them what was there
 unfoldable pub laid : List ℤ → List ℤ → List ℤ
 laid l room = l ++ drop (length l) room
 
