@@ -176,6 +176,3 @@ unfoldable pub sampleTests : ℕ → List ℤ → List ℕ → List (ℕ × Bool
 sampleTests depth entry bytes =
     (1, no1 depth) ∷ (7, not (eqb (length bytes) 98)) ∷ (11, not (legalEntry 0 entry 0)) ∷
     (15, not (allBelow 49 (λ k. leb (wide bytes k) (2 ^ depth - 1)))) ∷ []
-
-unfoldable pub sampleNumber : ℕ → List ℤ → List ℕ → ℕ
-sampleNumber depth entry bytes = first (sampleTests depth entry bytes)
