@@ -2,6 +2,7 @@
 from __future__ import annotations
 
 import argparse
+import operator
 import sys
 from array import array
 from typing import Callable, Optional, Sequence
@@ -87,6 +88,9 @@ def _records(words: argparse.Namespace, kind: type, raw: Callable[[argparse.Name
     """The records of the file that are of that kind, or the raw one."""
     if words.file is None:
         return [raw(words)]
+    given = [name for name in ('deblocked', 'cdef', 'units', 'unit', 'input') if getattr(words, name, None) is not None]
+    if given:
+        raise Wrong(f'{words.file} has its own planes: no --{given[0]} beside it')
     found = _files.read(words.file)
     if words.record is not None:
         if not 0 <= words.record < len(found):
@@ -137,26 +141,35 @@ def _raw_upscaling(words: argparse.Namespace) -> Upscaling:
     return Upscaling(scaling, 0, source, array('i'))
 
 
-def restored(record: Restoration, in_place: bool, progress: Progress) -> tuple[array, int]:
-    """The restored plane and its count of changed samples; progress counts stripes."""
-    stripes = record.frame.lengths().marks
+def _restored(record: Restoration, in_place: bool, progress: Progress) -> tuple[array, int]:
+    """The restored plane and its count of changed samples."""
     if not in_place:
         found = restore_plane(*record[:4])
-        progress.step(stripes)
-        return found
-    plane, marks, edges = array('i', record.cdef), bytearray(stripes), capture_edges(record.frame, record.deblocked)
-    for stripe in range(stripes):
-        restore_stripe(record.frame, stripe, record.units, edges, plane, marks)
         progress.step()
-    return plane, sum(before != after for before, after in zip(record.cdef, plane))
+        return found
+    edges = capture_edges(record.frame, record.deblocked)
+    lengths = record.frame.lengths()
+    plane, marks = array('i', record.cdef), bytearray(lengths.marks)
+    scratch, copy = (array('i', bytes(4 * length)) for length in (lengths.scratch, lengths.copy))
+    for stripe in range(lengths.marks):
+        restore_stripe(record.frame, stripe, record.units, edges, plane, marks, scratch, copy)
+        progress.step()
+    return plane, sum(map(operator.ne, record.cdef, plane))
+
+
+def _restoring(records: Sequence[Restoration], in_place: bool) -> Progress:
+    """Counts planes, or in place their stripes, of 64 luma rows each."""
+    if in_place:
+        return Progress('restoring, stripes', sum((record.frame.frame_height + 7) // 64 + 1 for record in records))
+    return Progress('restoring, planes', len(records))
 
 
 def _restore(words: argparse.Namespace) -> tuple[str, int]:
     records = _records(words, Restoration, _raw_restoration)
     answers, changed, different = [], 0, 0
-    with Progress('restoring, stripes', sum(record.frame.lengths().marks for record in records)) as progress:
+    with _restoring(records, words.in_place) as progress:
         for record in records:
-            plane, more = restored(record, words.in_place, progress)
+            plane, more = _restored(record, words.in_place, progress)
             changed += more
             different += _differ(plane, record.restored)
             answers.append(record._replace(restored=plane))
@@ -185,7 +198,7 @@ def _planes(records: Sequence[Record]) -> str:
 
 def _differ(plane: Sequence[int], recorded: Sequence[int]) -> int:
     """Samples that are not the recorded ones; a raw record has none."""
-    return sum(a != b for a, b in zip(plane, recorded)) + (len(recorded) and abs(len(plane) - len(recorded)))
+    return sum(map(operator.ne, plane, recorded)) + (len(recorded) and abs(len(plane) - len(recorded)))
 
 
 def _ended(words: argparse.Namespace, line: str, answers: list[Record], planes: list[array], different: int) -> tuple[str, int]:
@@ -215,10 +228,10 @@ def _show(words: argparse.Namespace) -> tuple[str, int]:
     if words.file is not None and words.record is None and len(records) > 1:
         print(f'cironetop: the first of {len(records)} records of restoration; --record picks another', file=sys.stderr)
     record = records[0]
-    with Progress('restoring, stripes', record.frame.lengths().marks) as progress:
-        plane, changed = restored(record, words.in_place, progress)
+    with _restoring([record], words.in_place) as progress:
+        plane, changed = _restored(record, words.in_place, progress)
     different = _differ(plane, record.restored)
-    with Progress('drawing, rows', record.frame.lengths().height) as progress:
+    with Progress('drawing, parts', _picture.PARTS) as progress:
         width, height = _picture.write(words.out, record._replace(restored=plane), words.file or words.cdef, progress)
     line = f'showed {changed} changed of {len(plane)} samples; wrote {words.out}, {width} x {height}'
     if different:

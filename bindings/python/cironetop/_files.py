@@ -73,11 +73,12 @@ def _numbers(data: bytes, code: str) -> array.array:
     found.frombytes(data)
     if sys.byteorder == 'big':
         found.byteswap()
-    return array.array('i', found.tolist())
+    return array.array('i', found)
 
 
 def _bytes(numbers: Iterable[int], size: int) -> bytes:
-    packed = array.array(_CODES[size], [number & (1 << 8 * size) - 1 for number in numbers])
+    mask = (1 << 8 * size) - 1
+    packed = array.array(_CODES[size], (number & mask for number in numbers))
     if sys.byteorder == 'big':
         packed.byteswap()
     return packed.tobytes()

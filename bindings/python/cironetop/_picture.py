@@ -14,6 +14,8 @@ from ._progress import Progress
 
 _BRIGHTER, _DARKER = (190, 20, 20), (20, 60, 190)
 _INK, _LINE, _PAPER = (20, 20, 20), (0, 110, 60), (255, 255, 255)
+# What `write` reports to its progress.
+PARTS = 5
 _LARGEST_SIDE, _USUAL_SIDE = 4096, 960
 _MARGIN, _TEXT = 16, 13
 _TYPES = ('none', 'Wiener', 'self-guided')
@@ -47,6 +49,7 @@ def write(path: str, record: Restoration, name: str, progress: Progress) -> tupl
     scale = _scale(max(lengths.width, lengths.height), record.frame.unit_size)
     changes = array('i', map(operator.sub, record.restored, record.cdef))
     largest = max(map(abs, changes), default=0)
+    progress.step()
     panel = _panel(record, changes, largest, scale, progress)
     font = _font()
     texts = _title(record, name, changes, largest)
@@ -62,6 +65,7 @@ def write(path: str, record: Restoration, name: str, progress: Progress) -> tupl
     note = _name(picture, units, scale, (left, top), font)
     _legend(draw, (left, top + panel.height + 22), largest, note, font)
     picture.save(path, 'PNG')
+    progress.step()
     return picture.size
 
 
@@ -91,8 +95,9 @@ def _units(record: Restoration) -> list[_Unit]:
         columns = max(columns, r.unit_col + 1)
         old = found.get((r.unit_row, r.unit_col), _Unit(r.x, r.y, 0, 0, ()))
         found[r.unit_row, r.unit_col] = _Unit(old.left, old.top, r.x + r.w, r.y + r.h, ())
-    entries = record.units.tolist() if record.frame.frame_type else []
-    return [unit._replace(entry=entries[10 * (row * columns + col):][:10] or [0] * 10) for (row, col), unit in found.items()]
+    entries = record.units.tolist() if record.frame.frame_type else [0] * 10 * len(found)
+    start = {(row, col): 10 * (row * columns + col) for row, col in found}
+    return [unit._replace(entry=entries[start[place]:start[place] + 10]) for place, unit in found.items()]
 
 
 def _label(entry: Sequence[int]) -> str:
@@ -124,11 +129,12 @@ def _panel(record: Restoration, changes: Sequence[int], largest: int, scale: _Sc
     if scale.step > 1:
         panel = panel.resize((-(-size[0] // scale.step), -(-size[1] // scale.step)))
     strongest = _strongest(changes, lengths.width, scale.step)
+    progress.step()
     strength = [_strength(change, largest) for change in range(largest + 1)]
     for colour, sign in ((_BRIGHTER, 1), (_DARKER, -1)):
         mask = bytes(strength[sign * change] if sign * change > 0 else 0 for change in strongest)
         panel.paste(colour, mask=Image.frombytes('L', panel.size, mask))
-        progress.step(lengths.height // 2)
+        progress.step()
     return panel.resize((panel.width * scale.zoom, panel.height * scale.zoom), Image.NEAREST)
 
 

@@ -3,6 +3,7 @@ import contextlib
 import io
 import os
 import tempfile
+import time
 import unittest
 from array import array
 from pathlib import Path
@@ -77,6 +78,7 @@ class Command(unittest.TestCase):
             ([WIENER, '--cdef', self.file('none.raw')], 1, 'No such file'),
             ([], 2, '--units or --unit'),
             (['--unit', '1,x'], 2, 'numbers with commas'),
+            ([WIENER, self.file('two.vec.xz')], 2, 'has its own planes'),
         ):
             found, out, err = self.row(*words)
             self.assertEqual((found, out), (status, ''))
@@ -155,6 +157,15 @@ class Progress(unittest.TestCase):
         with contextlib.redirect_stderr(out):
             with _progress.Progress('work', 4) as progress:
                 progress.step()
-                while 'work: 1 of 4, 25 %' not in out.getvalue():
-                    pass
+                for _ in range(200):
+                    if out.getvalue():
+                        break
+                    time.sleep(0.05)
+        self.assertIn('work: 1 of 4, 25 %', out.getvalue())
         self.assertTrue(out.getvalue().endswith('\r\x1b[K'))
+
+    def test_work_of_a_moment_says_nothing(self):
+        out = io.StringIO()
+        with contextlib.redirect_stderr(out), _progress.Progress('work', 1) as progress:
+            progress.step()
+        self.assertEqual(out.getvalue(), '')

@@ -20,14 +20,27 @@ NO_BUFFERS = (None, 3, 1.5, 'text', object(), [1, 2], {})
 NO_NUMBERS = (None, 1.5, '8', object(), [8], -1, 2**32, -(2**40), 2**70)
 
 
-def lend(rng, part, numbers):
-    """The numbers in memory of their own, of one of the kinds that a caller may have."""
-    code = 'B' if part in cases.BYTES else 'i'
-    memory = array(code, numbers)
-    kinds = [lambda: memory, lambda: memoryview(memory), lambda: memoryview(bytearray(memory.tobytes())).cast(code)]
-    if numpy is not None:
-        kinds.append(lambda: numpy.array(numbers, numpy.uint8 if code == 'B' else numpy.int32))
-    return rng.choice(kinds)()
+class Lent:
+    """A call's buffers by name, each in memory of its own between margins, of one of the kinds that a caller may have."""
+
+    def __init__(self, rng, slices):
+        self.memory = {part: self.between_margins(rng, part, numbers) for part, numbers in slices.items()}
+        self.buffers = {part: memory[8:-8] for part, memory in self.memory.items()}
+
+    @staticmethod
+    def between_margins(rng, part, numbers):
+        code = 'B' if part in cases.BYTES else 'i'
+        memory = array(code, [99] * 8 + numbers + [99] * 8)
+        kinds = [memoryview(memory), memoryview(bytearray(memory.tobytes())).cast(code)]
+        if numpy is not None:
+            kinds.append(numpy.array(memory, numpy.uint8 if code == 'B' else numpy.int32))
+        return rng.choice(kinds)
+
+    def content(self):
+        return {part: memory.tobytes() for part, memory in self.memory.items()}
+
+    def margins(self):
+        return {number for memory in self.memory.values() for margin in (memory[:8], memory[-8:]) for number in margin.tolist()}
 
 
 def wrong_buffer(rng, part, buffer, written):
@@ -65,10 +78,6 @@ def names(name):
     return (*cironetop.Frame._fields, 'index' if name == 'rectangle' else 'stripe')
 
 
-def content(buffers):
-    return {part: memoryview(buffer).tobytes() for part, buffer in buffers.items()}
-
-
 class Hostile(unittest.TestCase):
     def test_wrong_numbers_and_sizes_and_types(self):
         rng = random.Random(2024)
@@ -88,36 +97,36 @@ class Hostile(unittest.TestCase):
 
     def numbers(self, rng, name, numbers, slices):
         """Wrong in what the library looks at; 0 where nothing of that was made wrong."""
-        buffers = {part: lend(rng, part, slice) for part, slice in slices.items()}
-        expected, before = model.number(name, numbers, slices), content(buffers)
+        lent = Lent(rng, slices)
+        expected, before = model.number(name, numbers, slices), lent.content()
         try:
-            make(name, numbers, buffers)
+            make(name, numbers, lent.buffers)
             found = 0
+            self.assertLessEqual(lent.margins(), {99}, f'{name} {numbers} writes outside of its slices')
         except cironetop.Refused as refused:
             found = int(refused.number)
             self.assertIn(f'refused {found}: ', str(refused))
-            self.assertEqual(content(buffers), before, f'{name} {numbers} is refused with {found}, and something is written')
+            self.assertTrue(lent.content() == before, f'{name} {numbers} is refused with {found}, and something is written')
         self.assertEqual(found, expected, f'{name} {numbers} {slices}')
         return found
 
     def types(self, rng, name, numbers, slices):
         """Wrong in what the library cannot see: the error names the argument."""
-        buffers = {part: lend(rng, part, slice) for part, slice in slices.items()}
-        lent = dict(buffers)
+        lent = Lent(rng, slices)
+        buffers, before = dict(lent.buffers), lent.content()
         way = rng.randrange(3)
         if way == 0 or not buffers:
             named = self.wrong_number(rng, name, numbers)
-        elif way == 1 and len([part for part in buffers if len(memoryview(buffers[part]))]) > 1:
-            named = self.overlapping(rng, name, lent)
+        elif way == 1 and len([part for part in buffers if len(buffers[part])]) > 1:
+            named = self.overlapping(rng, name, buffers)
         else:
             named = rng.choice(list(buffers))
-            lent[named] = wrong_buffer(rng, named, buffers[named], cases.written(name, named))
-        before = content(buffers)
-        with self.assertRaises((TypeError, ValueError), msg=f'{name} {numbers} {lent}') as caught:
-            make(name, numbers, lent)
-        self.assertNotIsInstance(caught.exception, cironetop.Refused, f'{name} {numbers} {lent}')
+            buffers[named] = wrong_buffer(rng, named, buffers[named], cases.written(name, named))
+        with self.assertRaises((TypeError, ValueError), msg=f'{name} {numbers} {buffers}') as caught:
+            make(name, numbers, buffers)
+        self.assertNotIsInstance(caught.exception, cironetop.Refused, f'{name} {numbers} {buffers}')
         self.assertIn(named, str(caught.exception))
-        self.assertEqual(content(buffers), before)
+        self.assertTrue(lent.content() == before, f'{name} {numbers} {buffers}: something is written')
         return type(caught.exception).__name__
 
     def wrong_number(self, rng, name, numbers):
@@ -131,16 +140,14 @@ class Hostile(unittest.TestCase):
         numbers[place] = 2**31 if wrong == -1 and name == 'restore_sample' and place > 1 else wrong
         return names(name)[place]
 
-    def overlapping(self, rng, name, lent):
-        """Two slices of one memory, one of which the call writes to."""
-        parts = [part for part in lent if part not in cases.BYTES and len(memoryview(lent[part]))]
+    def overlapping(self, rng, name, buffers):
+        """Two slices of one memory, one of which the call writes to; where there are no such two, no buffer at all."""
+        parts = [part for part in buffers if part not in cases.BYTES and len(buffers[part])]
         targets = [part for part in parts if cases.written(name, part)]
-        target = rng.choice(targets) if targets else None
-        others = [part for part in parts if part != target]
-        if target is None or not others:
-            named = rng.choice(list(lent))
-            lent[named] = None
+        if not targets or len(parts) < 2:
+            named = rng.choice(list(buffers))
+            buffers[named] = 'text'
             return named
-        other = rng.choice(others)
-        lent[other] = memoryview(lent[target])[:1]
+        target = rng.choice(targets)
+        buffers[rng.choice([part for part in parts if part != target])] = buffers[target][:1]
         return target
