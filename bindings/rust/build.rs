@@ -1,13 +1,11 @@
-//! Names the static library to the linker, and says whether it exports the call in place.
+//! Names the static library to the linker.
 
 use std::env;
-use std::fs;
 use std::path::{Path, PathBuf};
 use std::process::Command;
 
 fn main() {
     println!("cargo::rerun-if-env-changed=CIRONETOP_HOST");
-    println!("cargo::rustc-check-cfg=cfg(stripe_exported)");
     if let Err(message) = archive().and_then(|archive| link(&archive)) {
         println!("cargo::error={message}");
     }
@@ -42,10 +40,5 @@ fn link(archive: &Path) -> Result<(), String> {
     let folder = place.parent().ok_or_else(wrong)?;
     println!("cargo::rustc-link-search=native={}", folder.display());
     println!("cargo::rustc-link-lib=static={}", name.ok_or_else(wrong)?);
-    let bytes = fs::read(&place).map_err(|_| wrong())?;
-    let call: &[u8] = b"cironetop_restore_stripe";
-    if bytes.windows(call.len()).any(|part| part == call) {
-        println!("cargo::rustc-cfg=stripe_exported");
-    }
     Ok(())
 }

@@ -16,7 +16,7 @@ changed meanwhile; two calls that lend the same memory, one of them to be writte
 """
 from ._calls import Restored, capture_edges, restore_plane, restore_sample, restore_stripe, upscale_plane
 from ._frames import Counts, Frame, Lengths, Rectangle, Scaling, Unit, count, rectangle, rectangles
-from ._library import LibraryMissing, exports
+from ._library import LibraryMissing
 from ._refused import Number, Refused
 
 __all__ = [
@@ -32,7 +32,6 @@ __all__ = [
     'Unit',
     'capture_edges',
     'count',
-    'exports',
     'rectangle',
     'rectangles',
     'restore_plane',

@@ -35,7 +35,7 @@ _CALLS: dict[str, tuple[Any, Sequence[Any], int]] = {
 
 
 class LibraryMissing(ImportError):
-    """The shared library is not there, or lacks a call."""
+    """The shared library is not there."""
 
 
 def path() -> Path:
@@ -54,14 +54,7 @@ def _load() -> ctypes.CDLL:
 @functools.lru_cache(maxsize=None)
 def call(name: str) -> Any:
     """The library's call of that name. It runs without the interpreter's lock."""
-    found = getattr(_load(), f'cironetop_{name}', None)
-    if found is None:
-        raise LibraryMissing(f'{path()} does not export cironetop_{name}')
+    found = getattr(_load(), f'cironetop_{name}')
     found.restype, numbers, slices = _CALLS[name]
     found.argtypes = [*numbers, *[c_void_p, c_size_t] * slices]
     return found
-
-
-def exports(name: str) -> bool:
-    """Whether the library has the call of that name."""
-    return hasattr(_load(), f'cironetop_{name}')

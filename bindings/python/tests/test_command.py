@@ -17,7 +17,6 @@ except ImportError:
     Image = None
 
 WIENER = '--unit=1,3,-7,15,3,-7,15,0,0,0'
-STRIPES = unittest.skipUnless(cironetop.exports('restore_stripe'), 'the library does not export cironetop_restore_stripe')
 
 
 def two_units():
@@ -114,7 +113,6 @@ class Command(unittest.TestCase):
         self.assertEqual(self.run_command('upscale', *words)[0], 0)
         self.assertEqual(_files.read_raw(self.file('up.raw')), self.upscaling().output)
 
-    @STRIPES
     def test_in_place_is_the_same(self):
         status, out, _ = self.run_command('restore', self.file('two.vec.xz'), '--in-place')
         self.assertEqual(status, 0)

@@ -74,6 +74,17 @@ class Files(unittest.TestCase):
         self.assertTrue(restored and upscaled)
 
     @AT_HAND
+    def test_decoders_planes_in_place(self):
+        records = [record for file in sorted((VECTORS / 'planes').glob('*.vec.xz'))[::7] for record in _files.read(file)]
+        restorations = [record for record in records if isinstance(record, _files.Restoration)]
+        for frame, units, deblocked, plane, restored in restorations:
+            edges, marks = cironetop.capture_edges(frame, deblocked), bytearray(cironetop.count(frame).stripes)
+            for stripe in reversed(range(len(marks))):
+                cironetop.restore_stripe(frame, stripe, units, edges, plane, marks)
+            self.assertEqual(plane, restored)
+        self.assertTrue(restorations)
+
+    @AT_HAND
     def test_decoders_files_are_written_as_they_were(self):
         for file in sorted((VECTORS / 'planes').glob('*.vec.xz'))[::9]:
             found = _files.read(file)

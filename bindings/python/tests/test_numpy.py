@@ -89,7 +89,6 @@ class Numpy(unittest.TestCase):
         with self.assertRaisesRegex(ValueError, r'window: shape \(49, 1\)'):
             cironetop.restore_sample(8, 3, UNITS[0], window.reshape(49, 1))
 
-    @unittest.skipUnless(cironetop.exports('restore_stripe'), 'the library does not export cironetop_restore_stripe')
     def test_in_place(self):
         expected, edges = self.restore().plane, cironetop.capture_edges(FRAME, self.deblocked)
         plane, marks = self.cdef.copy(), numpy.zeros(3, numpy.uint8)

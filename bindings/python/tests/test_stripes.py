@@ -9,7 +9,6 @@ from cironetop import Frame, Refused
 from . import cases
 
 
-@unittest.skipUnless(cironetop.exports('restore_stripe'), 'the library does not export cironetop_restore_stripe')
 class Stripes(unittest.TestCase):
     def test_any_order_is_the_whole_plane(self):
         rng = random.Random(7)

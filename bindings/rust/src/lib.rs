@@ -31,7 +31,6 @@ mod geometry;
 mod refusal;
 mod restoration;
 mod sample;
-#[cfg(stripe_exported)]
 mod stripe;
 mod superres;
 mod unit;
@@ -41,7 +40,6 @@ pub use geometry::{count, rectangle, rectangles, Counts, Rectangle};
 pub use refusal::Refusal;
 pub use restoration::{capture_edges, restore_plane};
 pub use sample::{restore_sample, WINDOW_BYTES};
-#[cfg(stripe_exported)]
 pub use stripe::restore_stripe;
 pub use superres::{upscale_plane, Scaling};
 pub use unit::{Unit, ENTRY};

@@ -19,7 +19,6 @@ impl Kind {
         Kind::Sample,
         Kind::Plane,
         Kind::Capture,
-        #[cfg(stripe_exported)]
         Kind::Stripe,
         Kind::Upscale,
         Kind::Count,
@@ -69,7 +68,6 @@ impl Call {
                 number(library::restore_plane(frame, part(), part(), part(), part(), part()))
             }
             Kind::Capture => number(library::capture_edges(frame, part(), part())),
-            #[cfg(stripe_exported)]
             Kind::Stripe => number(library::restore_stripe(
                 frame,
                 numbers[8],

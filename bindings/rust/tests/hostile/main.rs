@@ -38,7 +38,4 @@ fn wrong_calls_get_their_number_and_change_nothing() {
         }
     }
     println!("{refused} calls refused, {done} done");
-    if cfg!(not(stripe_exported)) {
-        println!("no stripe calls: the library does not export cironetop_restore_stripe");
-    }
 }
