@@ -1,4 +1,4 @@
-"""Buffers lent to a call: tested here for what the library cannot see, then handed over as address and count.
+"""Buffers lent to a call: tested here for what the library cannot see, then handed over as address and length.
 
 The library tests lengths, numbers and samples itself. It cannot see a wrong element type, a gap between rows, memory that may not be
 written, or memory that is lent twice; each of these is a TypeError or ValueError here, before the call.
@@ -49,7 +49,7 @@ class Slice(NamedTuple):
     name: str
     view: memoryview
     address: int
-    count: int
+    length: int
     writable: bool
 
 
@@ -97,7 +97,7 @@ def lent(name: str, buffer: Buffer, *kinds: str, writable: bool = False) -> Slic
 def fits(part: Slice, *shapes: Sequence[int]) -> None:
     """A slice of more than one dimension has one of the shapes, or a length that the library refuses."""
     lengths = {_product(shape) for shape in shapes}
-    if part.view.ndim != 1 and part.count in lengths and part.view.shape not in map(tuple, shapes):
+    if part.view.ndim != 1 and part.length in lengths and part.view.shape not in [tuple(shape) for shape in shapes]:
         needed = ' or '.join(str(tuple(shape)) for shape in shapes)
         raise ValueError(f'{part.name}: shape {part.view.shape}; {needed}, or one dimension, is needed')
 
@@ -123,7 +123,7 @@ _running: dict[object, Sequence[Slice]] = {}
 
 
 def _overlap(one: Slice, other: Slice, where: str = '') -> None:
-    if not (one.writable or other.writable) or not (one.count and other.count):
+    if not (one.writable or other.writable) or not (one.length and other.length):
         return
     if one.address < other.address + other.view.nbytes and other.address < one.address + one.view.nbytes:
         raise ValueError(f'{one.name} overlaps {other.name}{where}, and the call writes to memory that is lent twice')
@@ -131,7 +131,7 @@ def _overlap(one: Slice, other: Slice, where: str = '') -> None:
 
 @contextlib.contextmanager
 def lending(*parts: Slice) -> Iterator[list[int]]:
-    """Addresses and counts for the call; what is written overlaps nothing that is lent, by another thread's call neither."""
+    """Addresses and lengths for the call; what is written overlaps nothing that is lent, by another thread's call neither."""
     token = object()
     with _lock:
         for place, part in enumerate(parts):
@@ -142,7 +142,7 @@ def lending(*parts: Slice) -> Iterator[list[int]]:
                     _overlap(part, other, ' of a call that is still running')
         _running[token] = parts
     try:
-        yield [number for part in parts for number in (part.address, part.count)]
+        yield [number for part in parts for number in (part.address, part.length)]
     finally:
         with _lock:
             del _running[token]

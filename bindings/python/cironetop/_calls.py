@@ -6,7 +6,7 @@ from typing import Any, Callable, NamedTuple, Optional, Sequence, Union
 
 from . import _library
 from ._buffers import Buffer, Slice, fits, lending, lent, room
-from ._frames import Frame, Scaling, Unit, c_frame, c_scaling, count, whole
+from ._frames import Counts, Frame, Lengths, Scaling, Unit, c_frame, c_scaling, count, whole
 from ._refused import Refused
 
 # A flat int32 buffer, one whose last dimension is 10, or a sequence of entries of ten numbers.
@@ -28,15 +28,15 @@ class _Plane:
 
     def __init__(self, frame: Sequence[int]) -> None:
         self.numbers = c_frame(frame)
-        self.lengths = _unless_refused(Frame(*frame).lengths)
-        self.counts = _unless_refused(lambda: count(frame))
+        self.lengths: Optional[Lengths] = _unless_refused(Frame(*frame).lengths)
+        self.counts: Optional[Counts] = _unless_refused(lambda: count(frame))
         self.shape = (self.lengths.height, self.lengths.width) if self.lengths else (0,)
 
     def needed(self, name: str) -> int:
         """The length of the slice of that name."""
         if name == 'units':
             return 10 * self.counts.unit_rows * self.counts.unit_cols if self.counts else 0
-        return getattr(self.lengths, 'plane' if name in _ABOUT[7] else name) if self.lengths else 0
+        return int(getattr(self.lengths, 'plane' if name in _ABOUT[7] else name)) if self.lengths else 0
 
     def plane(self, name: str, buffer: Buffer, writable: bool = False) -> Slice:
         part = lent(name, buffer, writable=writable)
@@ -67,8 +67,8 @@ class _Plane:
     def refused(self, number: int, parts: Sequence[Slice], detail: str = '') -> Refused:
         """With what was found and needed, where the number is about lengths."""
         about = [part for part in parts if part.name in _ABOUT.get(number, ())]
-        wrong = [part for part in about if part.count < self.needed(part.name) or number != 16 and part.count > self.needed(part.name)]
-        found = [f'{part.name} has {part.count} numbers, {self.needed(part.name)} are needed' for part in wrong]
+        wrong = [part for part in about if part.length < self.needed(part.name) or number != 16 and part.length > self.needed(part.name)]
+        found = [f'{part.name} has {part.length} numbers, {self.needed(part.name)} are needed' for part in wrong]
         return Refused(number, '; '.join(found) or detail)
 
 
@@ -111,7 +111,7 @@ def restore_plane(
     name = 'out'
     if out is None:
         # A CDEF plane of another length is refused: no memory for its answer, and no word about it.
-        name, out = 'new plane', room(plane.shape if parts[2].count == plane.needed('out') else (0,), like=cdef)
+        name, out = 'new plane', room(plane.shape if parts[2].length == plane.needed('out') else (0,), like=cdef)
     parts += [plane.plane(name, out, writable=True), plane.spare('scratch', scratch)]
     with lending(*parts) as slices:
         found = _library.call('restore_plane')(plane.numbers, *slices)
@@ -129,7 +129,7 @@ def capture_edges(frame: Sequence[int], deblocked: Buffer, edges: Optional[Buffe
     plane = _Plane(frame)
     source = plane.plane('deblocked', deblocked)
     if edges is None:
-        edges = room(plane.edge_shape() if source.count == plane.needed('deblocked') else (0,), like=deblocked)
+        edges = room(plane.edge_shape() if source.length == plane.needed('deblocked') else (0,), like=deblocked)
     parts = [source, plane.edges(edges, writable=True)]
     with lending(*parts) as slices:
         number = _library.call('capture_edges')(plane.numbers, *slices)
@@ -176,14 +176,14 @@ def upscale_plane(scaling: Sequence[int], input: Buffer, output: Optional[Buffer
     if output is None:
         # Shapes that no legal call has are refused: no memory for their answer.
         legal = asked.out_rows <= asked.in_rows and asked.out_cols <= max(16384, asked.in_cols)
-        whole_input = source.count == asked.in_rows * asked.in_cols
+        whole_input = source.length == asked.in_rows * asked.in_cols
         output = room((asked.out_rows, asked.out_cols) if legal and whole_input else (0,), like=input)
     target = lent('output', output, writable=True)
     fits(target, (asked.out_rows, asked.out_cols))
     with lending(source, target) as slices:
         number = _library.call('upscale_plane')(numbers, *slices)
     if number:
-        found = f'{source.count} numbers as {asked.in_rows} x {asked.in_cols}, {target.count} as {asked.out_rows} x {asked.out_cols}'
+        found = f'{source.length} numbers as {asked.in_rows} x {asked.in_cols}, {target.length} as {asked.out_rows} x {asked.out_cols}'
         raise Refused(number, found if number == 7 else '')
     return output
 
@@ -196,7 +196,7 @@ def restore_sample(depth: int, row: int, unit: Sequence[int], window: Buffer) ->
     numbers = [whole('depth', depth), whole('row', row), *_entry('unit', unit)]
     part = _window(window)
     with lending(part):
-        found = _library.call('restore_sample')(*numbers, part.address, part.view.nbytes)
+        found = int(_library.call('restore_sample')(*numbers, part.address, part.view.nbytes))
     if found < 0:
         raise Refused(-found, f'the window has {part.view.nbytes} bytes, 98 are needed' if found == -7 else '')
     return found

@@ -5,7 +5,7 @@ import argparse
 import operator
 import sys
 from array import array
-from typing import Callable, Optional, Sequence
+from typing import Callable, Optional, Sequence, Type, TypeVar
 
 from . import _files
 from ._calls import capture_edges, restore_plane, restore_stripe, upscale_plane
@@ -15,6 +15,7 @@ from ._library import LibraryMissing
 from ._progress import Progress
 from ._refused import Refused
 
+Kind = TypeVar('Kind', Restoration, Upscaling)
 _SUBSAMPLINGS = {'444': (0, 0), '422': (1, 0), '420': (1, 1)}
 
 
@@ -31,7 +32,7 @@ def main(arguments: Optional[Sequence[str]] = None) -> int:
         print(f'cironetop: {error}', file=sys.stderr)
         return 2 if isinstance(error, Wrong) else 1
     print(line)
-    return status
+    return int(status)
 
 
 def _parser() -> argparse.ArgumentParser:
@@ -84,7 +85,7 @@ def _add_upscaling(command: argparse.ArgumentParser) -> None:
     command.add_argument('--cols', type=int, help="the input's columns, where it has more than its plane")
 
 
-def _records(words: argparse.Namespace, kind: type, raw: Callable[[argparse.Namespace], Record]) -> list[Record]:
+def _records(words: argparse.Namespace, kind: Type[Kind], raw: Callable[[argparse.Namespace], Kind]) -> list[Kind]:
     """The records of the file that are of that kind, or the raw one."""
     if words.file is None:
         return [raw(words)]
@@ -96,10 +97,10 @@ def _records(words: argparse.Namespace, kind: type, raw: Callable[[argparse.Name
         if not 0 <= words.record < len(found):
             raise Wrong(f'{words.file} has {len(found)} records, from 0')
         found = [found[words.record]]
-    found = [record for record in found if isinstance(record, kind)]
-    if not found:
+    of_kind = [record for record in found if isinstance(record, kind)]
+    if not of_kind:
         raise Wrong(f'{words.file}: no such record is of {"restoration" if kind is Restoration else "upscaling"}')
-    return found
+    return of_kind
 
 
 def _needed(words: argparse.Namespace, *names: str) -> None:
@@ -115,7 +116,7 @@ def _raw_restoration(words: argparse.Namespace) -> Restoration:
     return Restoration(frame, _units(words, frame), deblocked, cdef, array('i'))
 
 
-def _units(words: argparse.Namespace, frame: Frame) -> array:
+def _units(words: argparse.Namespace, frame: Frame) -> array[int]:
     if words.units is not None:
         return _files.read_raw(words.units, signed=True)
     if words.unit is None:
@@ -141,7 +142,7 @@ def _raw_upscaling(words: argparse.Namespace) -> Upscaling:
     return Upscaling(scaling, 0, source, array('i'))
 
 
-def _restored(record: Restoration, in_place: bool, progress: Progress) -> tuple[array, int]:
+def _restored(record: Restoration, in_place: bool, progress: Progress) -> tuple[array[int], int]:
     """The restored plane and its count of changed samples."""
     if not in_place:
         found = restore_plane(*record[:4])
@@ -154,7 +155,7 @@ def _restored(record: Restoration, in_place: bool, progress: Progress) -> tuple[
     for stripe in range(lengths.marks):
         restore_stripe(record.frame, stripe, record.units, edges, plane, marks, scratch, copy)
         progress.step()
-    return plane, sum(map(operator.ne, record.cdef, plane))
+    return plane, _differ(plane, record.cdef)
 
 
 def _restoring(records: Sequence[Restoration], in_place: bool) -> Progress:
@@ -166,7 +167,8 @@ def _restoring(records: Sequence[Restoration], in_place: bool) -> Progress:
 
 def _restore(words: argparse.Namespace) -> tuple[str, int]:
     records = _records(words, Restoration, _raw_restoration)
-    answers, changed, different = [], 0, 0
+    answers: list[Restoration] = []
+    changed = different = 0
     with _restoring(records, words.in_place) as progress:
         for record in records:
             plane, more = _restored(record, words.in_place, progress)
@@ -174,34 +176,40 @@ def _restore(words: argparse.Namespace) -> tuple[str, int]:
             different += _differ(plane, record.restored)
             answers.append(record._replace(restored=plane))
     how = ' in place' if words.in_place else ''
-    line = f'restored {_planes(records)}{how}, {sum(len(record.cdef) for record in records)} samples, {changed} changed'
-    return _ended(words, line, answers, [record.restored for record in answers], different)
+    planes = [record.restored for record in answers]
+    line = f'restored {_planes(planes)}{how}, {sum(map(len, planes))} samples, {changed} changed'
+    return _ended(words, line, answers, planes, different)
 
 
 def _upscale(words: argparse.Namespace) -> tuple[str, int]:
     records = _records(words, Upscaling, _raw_upscaling)
-    answers, different = [], 0
+    answers: list[Upscaling] = []
+    different = 0
     with Progress('upscaling, planes', len(records)) as progress:
         for record in records:
             plane = upscale_plane(record.scaling, record.input)
             different += _differ(plane, record.output)
             answers.append(record._replace(output=plane))
             progress.step()
-    before, after = sum(len(record.input) for record in answers), sum(len(record.output) for record in answers)
-    line = f'upscaled {_planes(records)}, {before} samples to {after}'
-    return _ended(words, line, answers, [record.output for record in answers], different)
+    planes = [record.output for record in answers]
+    line = f'upscaled {_planes(planes)}, {sum(len(record.input) for record in records)} samples to {sum(map(len, planes))}'
+    return _ended(words, line, answers, planes, different)
 
 
-def _planes(records: Sequence[Record]) -> str:
-    return '1 plane' if len(records) == 1 else f'{len(records)} planes'
+def _planes(planes: Sequence[array[int]]) -> str:
+    return '1 plane' if len(planes) == 1 else f'{len(planes)} planes'
 
 
 def _differ(plane: Sequence[int], recorded: Sequence[int]) -> int:
     """Samples that are not the recorded ones; a raw record has none."""
-    return sum(map(operator.ne, plane, recorded)) + (len(recorded) and abs(len(plane) - len(recorded)))
+    if not recorded:
+        return 0
+    return sum(map(bool, map(operator.ne, plane, recorded))) + abs(len(plane) - len(recorded))
 
 
-def _ended(words: argparse.Namespace, line: str, answers: list[Record], planes: list[array], different: int) -> tuple[str, int]:
+def _ended(
+    words: argparse.Namespace, line: str, answers: Sequence[Record], planes: Sequence[array[int]], different: int
+) -> tuple[str, int]:
     if words.file is not None:
         line += f'; {different} differ from those recorded in {words.file}'
     if words.out is not None:
@@ -210,7 +218,7 @@ def _ended(words: argparse.Namespace, line: str, answers: list[Record], planes: 
     return line, int(different > 0)
 
 
-def _write(path: str, answers: list[Record], planes: list[array]) -> None:
+def _write(path: str, answers: Sequence[Record], planes: Sequence[array[int]]) -> None:
     if path.endswith(('.vec', '.vec.xz')):
         _files.write(path, answers)
     elif len(planes) == 1:

@@ -18,10 +18,10 @@ class Restoration(NamedTuple):
     """Record LRV1: a plane before restoration, and after it."""
 
     frame: Frame
-    units: array.array
-    deblocked: array.array
-    cdef: array.array
-    restored: array.array
+    units: array.array[int]
+    deblocked: array.array[int]
+    cdef: array.array[int]
+    restored: array.array[int]
 
 
 class Upscaling(NamedTuple):
@@ -29,14 +29,14 @@ class Upscaling(NamedTuple):
 
     scaling: Scaling
     stage: int
-    input: array.array
-    output: array.array
+    input: array.array[int]
+    output: array.array[int]
 
 
 Record = Union[Restoration, Upscaling]
 
 
-def read_raw(path: str, signed: bool = False) -> array.array:
+def read_raw(path: str, signed: bool = False) -> array.array[int]:
     """The file's 16-bit little-endian numbers as int32."""
     data = Path(path).read_bytes()
     if len(data) % 2:
@@ -68,7 +68,7 @@ def write(path: str, records: Iterable[Record]) -> None:
     Path(path).write_bytes(lzma.compress(data) if str(path).endswith('.xz') else data)
 
 
-def _numbers(data: bytes, code: str) -> array.array:
+def _numbers(data: bytes, code: str) -> array.array[int]:
     found = array.array(code)
     found.frombytes(data)
     if sys.byteorder == 'big':
@@ -95,13 +95,13 @@ class _Sections:
         self.place += length
         return part
 
-    def next(self, signed: bool = False) -> array.array:
+    def next(self, signed: bool = False) -> array.array[int]:
         count, self.size = struct.unpack('<IB', self.take(5))
         if self.size not in _CODES:
             raise ValueError(f'a section has numbers of {self.size} bytes')
         return _numbers(self.take(count * self.size), 'h' if signed and self.size == 2 else _CODES[self.size])
 
-    def added(self, before: array.array) -> array.array:
+    def added(self, before: array.array[int]) -> array.array[int]:
         """The next section is told by what it differs from the one before."""
         more = self.next()
         if len(more) != len(before):

@@ -48,7 +48,7 @@ def write(path: str, record: Restoration, name: str, progress: Progress) -> tupl
     lengths = record.frame.lengths()
     scale = _scale(max(lengths.width, lengths.height), record.frame.unit_size)
     changes = array('i', map(operator.sub, record.restored, record.cdef))
-    largest = max(map(abs, changes), default=0)
+    largest = max(max(changes), -min(changes))
     progress.step()
     panel = _panel(record, changes, largest, scale, progress)
     font = _font()
@@ -66,7 +66,7 @@ def write(path: str, record: Restoration, name: str, progress: Progress) -> tupl
     _legend(draw, (left, top + panel.height + 22), largest, note, font)
     picture.save(path, 'PNG')
     progress.step()
-    return picture.size
+    return picture.width, picture.height
 
 
 def _font() -> Any:
@@ -108,7 +108,7 @@ def _short(entry: Sequence[int]) -> str:
     return ('-', 'W', f'S{entry[7]}')[entry[0]]
 
 
-def _title(record: Restoration, name: str, changes: Sequence[int], largest: int) -> list[str]:
+def _title(record: Restoration, name: str, changes: array[int], largest: int) -> list[str]:
     frame, lengths = record.frame, record.frame.lengths()
     kinds = record.units[::10].tolist() if frame.frame_type else []
     units = ', '.join(f'{kinds.count(kind)} {text}' for kind, text in enumerate(_TYPES) if kinds.count(kind)) or 'none: frame type 0'
@@ -150,9 +150,10 @@ def _strongest(changes: Sequence[int], width: int, step: int) -> Sequence[int]:
     found: list[int] = []
     for start in range(0, len(changes), step * width):
         rows = [changes[row:row + width] for row in range(start, min(start + step * width, len(changes)), width)]
-        rise, fall = list(map(max, zip(*rows))), list(map(min, zip(*rows)))
+        rise, fall = [max(column) for column in zip(*rows)], [min(column) for column in zip(*rows)]
         for x in range(0, width, step):
-            found.append(max(max(rise[x:x + step]), min(fall[x:x + step]), key=abs))
+            high, low = max(rise[x:x + step]), min(fall[x:x + step])
+            found.append(high if high >= -low else low)
     return found
 
 
