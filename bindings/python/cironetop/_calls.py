@@ -6,7 +6,7 @@ from typing import Any, Callable, NamedTuple, Optional, Sequence, Union
 
 from . import _library
 from ._buffers import Buffer, Slice, fits, lending, lent, room
-from ._frames import Counts, Frame, Lengths, Scaling, Unit, c_frame, c_scaling, count, whole
+from ._frames import Counts, Frame, Lengths, Scaling, Unit, c_frame, c_scaling, count, numbers_of, whole
 from ._refused import Refused
 
 # A flat int32 buffer, one whose last dimension is 10, or a sequence of entries of ten numbers.
@@ -28,8 +28,9 @@ class _Plane:
 
     def __init__(self, frame: Sequence[int]) -> None:
         self.numbers = c_frame(frame)
-        self.lengths: Optional[Lengths] = _unless_refused(Frame(*frame).lengths)
-        self.counts: Optional[Counts] = _unless_refused(lambda: count(frame))
+        known = Frame(*numbers_of(self.numbers))
+        self.lengths: Optional[Lengths] = _unless_refused(known.lengths)
+        self.counts: Optional[Counts] = _unless_refused(lambda: count(known))
         self.shape = (self.lengths.height, self.lengths.width) if self.lengths else (0,)
 
     def needed(self, name: str) -> int:
@@ -170,20 +171,21 @@ def upscale_plane(scaling: Sequence[int], input: Buffer, output: Optional[Buffer
 
     Raises Refused 1, 2, 4, 6, 7, 8 or 15.
     """
-    numbers, asked = c_scaling(scaling), Scaling(*scaling)
+    numbers = c_scaling(scaling)
+    asked = Scaling(*numbers_of(numbers))
+    before, after = (asked.in_rows, asked.in_cols), (asked.out_rows, asked.out_cols)
     source = lent('input', input)
-    fits(source, (asked.in_rows, asked.in_cols))
+    fits(source, before)
     if output is None:
         # Shapes that no legal call has are refused: no memory for their answer.
-        legal = asked.out_rows <= asked.in_rows and asked.out_cols <= max(16384, asked.in_cols)
-        whole_input = source.length == asked.in_rows * asked.in_cols
-        output = room((asked.out_rows, asked.out_cols) if legal and whole_input else (0,), like=input)
+        legal = before == after or asked.out_rows <= min(asked.in_rows, 16384) and asked.out_cols <= 16384
+        output = room(after if legal and source.length == asked.in_rows * asked.in_cols else (0,), like=input)
     target = lent('output', output, writable=True)
-    fits(target, (asked.out_rows, asked.out_cols))
+    fits(target, after)
     with lending(source, target) as slices:
         number = _library.call('upscale_plane')(numbers, *slices)
     if number:
-        found = f'{source.length} numbers as {asked.in_rows} x {asked.in_cols}, {target.length} as {asked.out_rows} x {asked.out_cols}'
+        found = f'input has {source.length} numbers for {before[0]} x {before[1]}, output {target.length} for {after[0]} x {after[1]}'
         raise Refused(number, found if number == 7 else '')
     return output
 

@@ -156,9 +156,9 @@ def _record(record: Any, what: str, numbers: Sequence[int]) -> Any:
     return record(*(whole(name, number) for name, number in zip(names, numbers)))
 
 
-def _values(record: Any) -> list[int]:
-    """The numbers after the first, which is document 01's."""
-    return [getattr(record, name) for name, _ in record._fields_[1:]]
+def numbers_of(record: Any) -> list[int]:
+    """The numbers of a C struct."""
+    return [getattr(record, name) for name, _ in record._fields_]
 
 
 def count(frame: Sequence[int]) -> Counts:
@@ -169,7 +169,7 @@ def count(frame: Sequence[int]) -> Counts:
     found = _library.call('count')(c_frame(frame))
     if found.number:
         raise Refused(found.number)
-    return Counts(*_values(found))
+    return Counts(*numbers_of(found)[1:])
 
 
 def rectangle(frame: Sequence[int], index: int) -> Rectangle:
@@ -182,7 +182,7 @@ def rectangle(frame: Sequence[int], index: int) -> Rectangle:
         raise Refused(13, f'rectangle {index}; the plane has {count(frame).rectangles}')
     if found.number:
         raise Refused(found.number)
-    return Rectangle(*_values(found))
+    return Rectangle(*numbers_of(found)[1:])
 
 
 def rectangles(frame: Sequence[int]) -> Iterator[Rectangle]:

@@ -86,6 +86,8 @@ class Numpy(unittest.TestCase):
     def test_window_and_numpy_numbers(self):
         window = numpy.full((7, 7), 100, numpy.uint16)
         self.assertEqual(cironetop.restore_sample(numpy.uint8(8), numpy.int64(3), UNITS[0], window), 100)
+        narrow = numpy.array(FRAME, numpy.uint8)
+        self.assertEqual(cironetop.restore_plane(narrow, UNITS, self.deblocked, self.cdef).changed, self.restore().changed)
         with self.assertRaisesRegex(ValueError, r'window: shape \(49, 1\)'):
             cironetop.restore_sample(8, 3, UNITS[0], window.reshape(49, 1))
 

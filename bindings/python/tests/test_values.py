@@ -114,6 +114,7 @@ class Refusals(unittest.TestCase):
             lambda: cironetop.restore_plane(large, [WIENER], array('i', [0]), array('i', [0])),
             lambda: cironetop.capture_edges(large, array('i', [0])),
             lambda: cironetop.upscale_plane(Scaling(0, 0, 0, 8, 1, 16384, 16384, 1, 1, 1, 16384, 16384), array('i', [0])),
+            lambda: cironetop.upscale_plane(Scaling(0, 0, 0, 8, 1, 2, 1, 1, 2**32 - 1, 0, 2**32 - 1, 16384), array('i')),
         ):
             with self.assertRaisesRegex(Refused, 'refused 7'):
                 call()
