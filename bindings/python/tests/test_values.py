@@ -90,7 +90,7 @@ class Values(unittest.TestCase):
                 self.assertEqual(Frame(plane, sub_x, sub_y, 0, side, side, 0, 9).lengths(), expected)
 
     def test_documentation(self):
-        self.assertEqual(doctest.testmod(cironetop).failed, 0)
+        self.assertEqual(doctest.testmod(cironetop, verbose=False).failed, 0)
 
 
 class Refusals(unittest.TestCase):
