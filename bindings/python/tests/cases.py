@@ -1,4 +1,6 @@
 """Random calls that are legal, or nearly, and ways to make their numbers wrong."""
+import collections
+
 from . import model
 
 SLICES = {
@@ -10,6 +12,10 @@ SLICES = {
     'count': (),
     'rectangle': (),
 }
+# What the call makes where it is not lent.
+OPTIONAL = collections.defaultdict(
+    tuple, restore_plane=('out', 'scratch'), capture_edges=('edges',), restore_stripe=('scratch', 'copy'), upscale_plane=('output',)
+)
 WRITTEN = ('out', 'scratch', 'edges', 'plane', 'marks', 'copy', 'output')
 BYTES = ('window', 'marks')
 NEAR = (-1, 3, -6, 11, -24, 9, -18, 47, 16, -97, 32, -33, 96)

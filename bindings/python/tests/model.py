@@ -1,7 +1,7 @@
 """Document 01's table, from the document alone: the number that a call has to give.
 
 A call is its name, its numbers, and its slices by name as lists of numbers. Conditions are asked in the order of their numbers; those
-from 7 on may rely on a legal frame.
+from 7 on may rely on a legal frame. A slice that is left out is made by the call, as long as it has to be.
 """
 NUMBERS = {
     'restore_sample': (1, 7, 11, 15),
@@ -63,7 +63,7 @@ def _upscale(number, name, numbers, slices):
     if number == 7:
         wide = rows <= in_rows <= 16384 and down <= in_cols <= 16392 and (out_rows, out_cols) == (rows, up)
         shapes = (in_rows, in_cols) == (out_rows, out_cols) if copies else wide
-        return not shapes or len(slices['input']) != in_rows * in_cols or len(slices['output']) != out_rows * out_cols
+        return not shapes or len(slices['input']) != in_rows * in_cols or _wrong(slices, 'output', out_rows * out_cols)
     if number == 8:
         return not copies and up <= down
     return _out_of_range(slices['input'], depth)
@@ -107,18 +107,22 @@ def _restoration(number, name, numbers, slices):
     return _of_stripes(number, name, numbers, slices, (width, height, sub))
 
 
+def _wrong(slices, part, length):
+    return part in slices and len(slices[part]) != length
+
+
 def _short(slices, width, rows):
-    short_copy = 'copy' in slices and len(slices['copy']) < width * rows
-    return short_copy or len(slices['scratch']) < 6 * (min(width, 383) + 8) * (rows + 8)
+    needed = {'copy': width * rows, 'scratch': 6 * (min(width, 383) + 8) * (rows + 8)}
+    return any(part in slices and len(slices[part]) < length for part, length in needed.items())
 
 
 def _of_stripes(number, name, numbers, slices, shape):
     width, height, sub = shape
     count, stripe = stripes(height, sub), numbers[-1]
     if number == 7:
-        return any(len(slices[part]) != width * height for part in ('deblocked', 'cdef', 'out', 'plane') if part in slices)
+        return any(_wrong(slices, part, width * height) for part in ('deblocked', 'cdef', 'out', 'plane'))
     if number == 9:
-        return len(slices['edges']) != 4 * width * (count - 1)
+        return _wrong(slices, 'edges', 4 * width * (count - 1))
     if number == 12:
         return len(slices['marks']) != count or any(mark > 1 for mark in slices['marks'])
     if number == 13:

@@ -15,7 +15,6 @@ except ImportError:
 
 CALLS = 10_000
 NAMES = list(model.NUMBERS)
-OPTIONAL = ('out', 'scratch', 'copy', 'output')
 NO_BUFFERS = (None, 3, 1.5, 'text', object(), [1, 2], {})
 NO_NUMBERS = (None, 1.5, '8', object(), [8], -1, 2**32, -(2**40), 2**70)
 
@@ -46,8 +45,8 @@ class Lent:
 def wrong_buffer(rng, part, buffer, written):
     """The buffer as no call takes it: of another type, with gaps, misplaced, not to be written."""
     view, whole = memoryview(buffer), part not in cases.BYTES
-    # Left out or None, these are made by the call.
-    wrongs = [rng.choice(NO_BUFFERS[part in OPTIONAL or part == 'edges':]), array('f', [1] * len(view)), array('q', [0] * len(view))]
+    # What a call writes it may have to make: None is no error there.
+    wrongs = [rng.choice(NO_BUFFERS[part in cases.WRITTEN:]), array('f', [1] * len(view)), array('q', [0] * len(view))]
     if len(view) > 2:
         wrongs += [view[::-1], view[::2]]
     if whole:
@@ -97,6 +96,9 @@ class Hostile(unittest.TestCase):
 
     def numbers(self, rng, name, numbers, slices):
         """Wrong in what the library looks at; 0 where nothing of that was made wrong."""
+        for part in cases.OPTIONAL[name]:
+            if rng.randrange(6) == 0:
+                del slices[part]
         lent = Lent(rng, slices)
         expected, before = model.number(name, numbers, slices), lent.content()
         try:
