@@ -1,27 +1,10 @@
 /* The C boundary, from C: document 01's values through each exported call, then each number of a struct made wrong by itself, so that a
    struct or an argument that arrives in another place is seen. Status 1 on any difference. */
-#include <stdint.h>
 #include <stdio.h>
 #include <stdlib.h>
 #include <string.h>
 
-typedef struct { uint32_t plane, sub_x, sub_y, depth, frame_height, upscaled_width, unit_size, frame_type; } cironetop_frame;
-typedef struct { uint32_t number, changed; } cironetop_restored;
-typedef struct { uint32_t number, unit_rows, unit_cols, stripes, rectangles; } cironetop_counted;
-typedef struct { uint32_t number, unit_row, unit_col, x, y, w, h;
-                 int32_t stripe_start_y, stripe_end_y, plane_end_x, plane_end_y; } cironetop_placed;
-typedef struct { uint32_t plane, sub_x, sub_y, depth, frame_width, upscaled_width, frame_height, use_superres,
-                 in_rows, in_cols, out_rows, out_cols; } cironetop_scaling;
-
-int32_t cironetop_restore_sample(uint32_t depth, uint32_t row,
-            int32_t type, int32_t v0, int32_t v1, int32_t v2, int32_t h0, int32_t h1, int32_t h2, int32_t set, int32_t w0, int32_t w1,
-            const uint8_t *window, size_t window_len);
-cironetop_restored cironetop_restore_plane(cironetop_frame f, const int32_t *units, size_t, const int32_t *deblocked, size_t,
-            const int32_t *cdef, size_t, int32_t *out, size_t, int32_t *scratch, size_t);
-uint32_t cironetop_capture_edges(cironetop_frame f, const int32_t *deblocked, size_t, int32_t *edges, size_t);
-uint32_t cironetop_upscale_plane(cironetop_scaling s, const int32_t *input, size_t, int32_t *output, size_t);
-cironetop_counted cironetop_count(cironetop_frame f);
-cironetop_placed cironetop_rectangle(cironetop_frame f, uint32_t index);
+#include "cironetop.h"
 
 static int calls, differences;
 
