@@ -1,0 +1,108 @@
+-- What is known of a job that is not refused: no call that the program makes of it is refused, its in-place run differs nowhere, and its
+-- numbers are within the bounds. And no second answer keeps the promise of `run_job`.
+use mathlib.Core.Path.{_≡_, refl, sym, ap, _∙_, subst}
+use mathlib.Core.Bool.{Bool, true, false, cond}
+use mathlib.Core.List.{List, _++_}
+use mathlib.Core.Logic.{_⊎_, inl, inr}
+use Prim.Native.Nat.{ℕ, zero, suc, _+_, _-_, _*_, _≤_, _<_}
+use native.Mathlib.Omega.{arith}
+use lib.Dec.{T, eqb, eqb→eq, ltb}
+use lib.IntN.{ℤ, pos}
+use lib.ListN.{length, getD, drop, replicate, List·getD-append, getD-replicate, length-replicate, length-append, length-drop}
+use lib.Seq.{getD-append-add, getD-drop}
+use lib.Signed.{_≤ℤ_, leZ-yes}
+use Rattle.laws.specs.Index.{lt-or-le, mul-small}
+use Rattle.standard.specs.declared.JobRan.{JobRan}
+use Rattle.standard.specs.declared.Report.{Report}
+use Rattle.standard.specs.Answers.{ofJobRan, noReport}
+use Rattle.standard.specs.Stripes.{stripes}
+use Rattle.standard.specs.Refusals.{first, captureTests, planeHeight, planeWidth, subY}
+use Rattle.standard.specs.Calls.{ifDone, stripeCallNumber}
+use Rattle.standard.specs.Job.{jobOf, no17, no18, formTests, laid, jobTests, jobNumber, jobRows, jobCall, jobStripes, inPlace, jobDiffers, jobReport, runAnswer, runRows}
+use Rattle.standard.proofs.Answers.{job-ran-once}
+use Rattle.standard.proofs.Job.{Bounded, bounded}
+use Rattle.counted.specs.Whole.{Whole}
+use Rattle.worked.proofs.Run as run
+use Rattle.worked.proofs.Laws.{rows-whole, rows-long}
+
+none-of : (a b c : Bool) (m : ℕ) → cond a 18 (cond b 17 (cond c 18 m)) ≡ 0 → (c ≡ false) × (m ≡ 0)
+none-of true b c m e = absurd (omega arith)
+none-of false true c m e = absurd (omega arith)
+none-of false false true m e = absurd (omega arith)
+none-of false false false m e = (refl, e)
+
+-- a job that is not refused
+module _ (b : List ℕ) (z : jobNumber b ≡ 0) where
+  passes : (no18 (jobOf b) ≡ false) × (first (jobTests (jobOf b)) ≡ 0)
+  unfolding jobNumber first formTests
+  passes = none-of (ltb 4160 (length b)) (no17 b) (no18 (jobOf b)) (first (jobTests (jobOf b))) z
+
+  bounds : Bounded (jobOf b)
+  bounds = bounded (jobOf b) (passes .0)
+
+  -- capture and the stripes' calls are never refused after it
+  pub capture-done : (n : ℕ) → let f = jobOf b .frame in n ≡ 4 * planeWidth f * (stripes (subY f) (planeHeight f) - 1) → first (captureTests f (jobOf b .deblocked) n) ≡ 0
+  capture-done n e = run.capture-done (jobOf b) bounds (passes .1) n e
+
+  pub stripe-done : (s : ℕ) → s < jobStripes (jobOf b) → stripeCallNumber (jobCall (jobOf b) s) (inPlace (jobOf b) s) ≡ 0
+  stripe-done s h = run.stripe-done (jobOf b) bounds (passes .1) s h
+
+  -- the in-place run leaves the restored rows
+  pub same-rows : inPlace (jobOf b) (jobStripes (jobOf b)) .plane ≡ jobRows (jobOf b)
+  same-rows = run.in-place-whole (jobOf b) bounds (passes .1)
+
+  pub differs-nowhere : jobDiffers (jobOf b) ≡ 0
+  differs-nowhere = run.differs-none (jobOf b) bounds (passes .1)
+
+-- what is printed of it
+abbrev byNumber : ℕ → Report → ℕ × Report
+byNumber n t = (n, ifDone n t noReport)
+
+shown : (n : ℕ) (r t : Report) → (0, r) ≡ byNumber n t → (n ≡ 0) × (r ≡ t)
+shown zero r t q = (refl, ap (λ p. p .1) q)
+shown (suc n) r t q = absurd (omega (arith, ap (λ p. p .0) q))
+
+module _ (b : List ℕ) (r : Report) (q : ofJobRan (JobRan.Done r) ≡ runAnswer b) where
+  found : (jobNumber b ≡ 0) × (r ≡ jobReport (jobOf b))
+  unfolding runAnswer
+  found = shown (jobNumber b) r (jobReport (jobOf b)) q
+
+  pub last-number : r .differs ≡ 0
+  unfolding jobReport
+  last-number = ap (λ t. t .differs) (found .1) ∙ differs-nowhere b (found .0)
+
+  pub small : (r .height * r .width ≤ 1024) × (r .height ≤ 128) × (r .width ≤ 8)
+  unfolding jobReport
+  small =
+      let l = bounds b (found .0) in
+      let p = passes b (found .0) .1 in
+      let h : r .height ≤ 128 = omega (arith, ap (λ t. t .height) (found .1), run.low (jobOf b) l p) in
+      let w : r .width ≤ 8 = omega (arith, ap (λ t. t .width) (found .1), run.narrow (jobOf b) l p) in
+      (mul-small 128 8 h w, h, w)
+
+-- no sample that is printed is negative
+laid-whole : (l room : List ℤ) → Whole l → Whole room → length l ≤ length room → Whole (laid l room)
+unfolding laid
+laid-whole l room u v h = record { low = λ k p. go k p (lt-or-le k (length l)) }
+  where
+    go : (k : ℕ) → k < length (l ++ drop (length l) room) → (k < length l) ⊎ (length l ≤ k) → pos 0 ≤ℤ getD (l ++ drop (length l) room) k (pos 0)
+    go k p (inl q) = subst (λ z. pos 0 ≤ℤ z) (sym (List·getD-append l _ (pos 0) k q)) (u .low k q)
+    go k p (inr q) = subst (λ z. pos 0 ≤ℤ z)
+        (sym (ap (λ i. getD (l ++ drop (length l) room) i (pos 0)) {x = k} {y = length l + (k - length l)} (omega arith) ∙ getD-append-add l (drop (length l) room) (k - length l) (pos 0) ∙ getD-drop (length l) room (k - length l) (pos 0) ∙ ap (λ i. getD room i (pos 0)) (omega arith)))
+        (v .low k (omega (arith, length-append l (drop (length l) room), length-drop (length l) room)))
+
+pub zeros-whole : (n : ℕ) → Whole (replicate n (pos 0))
+zeros-whole n = record { low = λ k p. subst (λ z. pos 0 ≤ℤ z) (sym (getD-replicate n k (pos 0) (pos 0) (omega (arith, length-replicate n (pos 0))))) (leZ-yes tt) }
+
+pub printed-whole : (b : List ℕ) (room : List ℤ) → Whole room → length room ≡ 1024 → Whole (runRows b room)
+unfolding runRows
+printed-whole b room v l = go (eqb (jobNumber b) 0) (eqb→eq (jobNumber b) 0)
+  where
+    go : (t : Bool) → (T t → jobNumber b ≡ 0) → Whole (cond t (laid (jobRows (jobOf b)) room) room)
+    go true z = let p = passes b (z tt) .1 in let r = bounds b (z tt) in
+        laid-whole (jobRows (jobOf b)) room (rows-whole (jobOf b) r p (jobRows (jobOf b)) refl (rows-long (jobOf b) p ∙ run.passed (jobOf b) r p .long-c)) v (omega (arith, l, rows-long (jobOf b) p, r .cdef))
+    go false z = v
+
+-- no second answer
+pub run-once : (b : List ℕ) (r s : JobRan) → ofJobRan r ≡ runAnswer b → ofJobRan s ≡ runAnswer b → r ≡ s
+run-once b r s p q = job-ran-once r s (p ∙ sym q)
