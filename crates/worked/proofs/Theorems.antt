@@ -103,6 +103,15 @@ printed-whole b room v l = go (eqb (jobNumber b) 0) (eqb→eq (jobNumber b) 0)
         laid-whole (jobRows (jobOf b)) room (rows-whole (jobOf b) r p (jobRows (jobOf b)) refl (rows-long (jobOf b) p ∙ run.passed (jobOf b) r p .long-c)) v (omega (arith, l, rows-long (jobOf b) p, r .cdef))
     go false z = v
 
+-- and the room keeps its length
+pub printed-long : (b : List ℕ) (room : List ℤ) → length room ≡ 1024 → length (runRows b room) ≡ 1024
+unfolding runRows laid
+printed-long b room l = go (eqb (jobNumber b) 0) (eqb→eq (jobNumber b) 0)
+  where
+    go : (t : Bool) → (T t → jobNumber b ≡ 0) → length (cond t (jobRows (jobOf b) ++ drop (length (jobRows (jobOf b))) room) room) ≡ 1024
+    go true z = length-append (jobRows (jobOf b)) _ ∙ omega (arith, length-drop (length (jobRows (jobOf b))) room, l, rows-long (jobOf b) (passes b (z tt) .1), bounds b (z tt) .cdef)
+    go false z = l
+
 -- no second answer
 pub run-once : (b : List ℕ) (r s : JobRan) → ofJobRan r ≡ runAnswer b → ofJobRan s ≡ runAnswer b → r ≡ s
 run-once b r s p q = job-ran-once r s (p ∙ sym q)
