@@ -14,6 +14,7 @@ pub mod context;
 pub mod frame;
 pub mod geometry;
 pub mod in_place;
+pub mod job;
 pub mod one_sample;
 pub mod upscale;
 pub mod whole_plane;

@@ -2,6 +2,7 @@
 
 use oracle::frame::{legal_unit_sizes, Frame, DEPTHS, LARGEST_SIDE, SUBSAMPLINGS};
 use oracle::records::{folder, recorded};
+use oracle::refusals::OF_JOB;
 use oracle::units::{uses, ENTRY, RANGES};
 use std::collections::BTreeSet;
 
@@ -208,4 +209,25 @@ fn edges_are_in_the_domain() {
         assert_eq!(edges.len() % (4 * frame.width()), 0);
         assert_samples(deblocked, frame.depth);
     }
+}
+
+#[test]
+fn jobs_are_of_every_kind_and_differ_nowhere_in_place() {
+    let records = records_of("jobs.rec");
+    let mut numbers = BTreeSet::new();
+    let mut done = 0;
+    for record in &records {
+        let mut at = 1 + usize::from(record[0]).div_ceil(2);
+        numbers.insert(u32::from(record[at]));
+        if record[at] == 0 {
+            let samples = usize::from(record[at + 2]) * usize::from(record[at + 3]);
+            at += 6;
+            assert_eq!(section(record, &mut at).len(), samples);
+            assert_eq!(record[at], 0, "the reference's two ways agree");
+            done += 1;
+        }
+        assert_eq!(at + 1, record.len());
+    }
+    assert!(records.len() > 300 && done > 100);
+    assert_eq!(numbers, OF_JOB.iter().copied().collect());
 }

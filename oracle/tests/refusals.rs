@@ -3,12 +3,15 @@
 
 use oracle::calls::{CaptureCall, PlaneCall, SampleCall, StripeCall, UpscaleCall};
 use oracle::cases::{
-    copy_case, frame_around, frame_at_edges, plane_case, sample_case, unrestored_case,
-    upscale_case, PlaneCase,
+    copy_case, frame_around, frame_at_edges, job_case, jobs_of_note, legal_job, plane_case,
+    sample_case, unrestored_case, upscale_case, PlaneCase,
 };
 use oracle::damage::{damage_capture, damage_plane, damage_sample, damage_scaling, damage_stripe};
 use oracle::in_place;
-use oracle::refusals::{own_rows, stripes, OF_CAPTURE, OF_PLANE, OF_SAMPLE, OF_STRIPE, OF_UPSCALE};
+use oracle::job::Job;
+use oracle::refusals::{
+    job_number, own_rows, stripes, OF_CAPTURE, OF_JOB, OF_PLANE, OF_SAMPLE, OF_STRIPE, OF_UPSCALE,
+};
 use oracle::rng::Rng;
 use std::collections::BTreeSet;
 
@@ -91,6 +94,19 @@ fn damaged_stripes_and_captures_have_every_number() {
         call.number()
     });
     assert_eq!((of_capture, of_stripe), (set(OF_CAPTURE), set(OF_STRIPE)));
+}
+
+#[test]
+fn jobs_have_every_number_and_are_read_back() {
+    let found = numbers("jobs", |rng, _| job_number(&job_case(rng)).err().unwrap_or(0));
+    assert_eq!(found, set(OF_JOB));
+    let notes: Vec<u32> =
+        jobs_of_note().iter().map(|bytes| job_number(bytes).err().unwrap_or(0)).collect();
+    assert_eq!(notes, [0, 17, 17, 17, 0, 17, 18]);
+    for index in 0..500 {
+        let job = legal_job(&mut Rng::for_case("read back", index));
+        assert_eq!(Job::read(&job.bytes()), Some(job));
+    }
 }
 
 #[test]

@@ -2,6 +2,7 @@
 
 mod blocks;
 mod edges;
+mod jobs;
 mod planes;
 mod readme;
 mod record;
@@ -10,6 +11,7 @@ mod samples;
 mod stripes;
 mod upscale;
 
+pub use jobs::other_jobs;
 pub use record::Record;
 
 use crate::sha256::hex_digest;
@@ -38,6 +40,7 @@ pub fn recorded() -> Vec<Recorded> {
         edges::recorded(),
         stripes::recorded(),
         upscale::recorded(),
+        jobs::recorded(),
     ]
 }
 

@@ -6,7 +6,8 @@ const HEAD: &str = "\
 # Recorded answers of the reference
 
 What the reference Rust answers on fixed inputs, written down so that a replay needs no Rust. Every
-input is inside document 01's domain, so every call answers 0 and gives these numbers.
+input is inside document 01's domain, so every call answers 0 and gives these numbers; but `jobs.rec`
+has refused jobs too, with the number that document 01 gives them (`oracle/src/refusals`).
 
 ## Format
 

@@ -5,16 +5,19 @@
 
 mod conditions;
 mod geometry;
+mod jobs;
 mod restoration;
 mod samples;
 mod scaling;
 
 pub use geometry::{count_number, rectangle_number};
+pub use jobs::job_number;
 pub use restoration::{copy_need, edge_rows, own_rows, scratch_need, stripes};
 
 /// The numbers that each call may return.
 pub const OF_SAMPLE: &[u32] = &[0, 1, 7, 11, 15];
 pub const OF_PLANE: &[u32] = &[0, 1, 2, 3, 4, 5, 7, 10, 11, 15, 16];
+pub const OF_JOB: &[u32] = &[0, 1, 2, 3, 4, 5, 7, 10, 11, 15, 17, 18];
 pub const OF_CAPTURE: &[u32] = &[0, 1, 2, 4, 7, 9, 15];
 pub const OF_STRIPE: &[u32] = &[0, 1, 2, 3, 4, 5, 7, 9, 10, 11, 12, 13, 14, 15, 16];
 pub const OF_UPSCALE: &[u32] = &[0, 1, 2, 4, 6, 7, 8, 15];

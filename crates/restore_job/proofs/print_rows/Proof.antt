@@ -1,5 +1,5 @@
 -- Row by row, within the plane.
-use Prim.Native.Nat.{_*_, _-_, _≤_}
+use Prim.Native.Nat.{_-_, _≤_}
 use native.Mathlib.Omega.{arith}
 use Rattle.laws.specs.Index.{row-le, mul-small}
 use Rattle.restore_job.proofs.print_rows.Statement.{statement}

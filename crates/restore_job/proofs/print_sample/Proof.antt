@@ -1,7 +1,7 @@
 -- A sample that is not negative is its own size, which fits.
-use Prim.Native.Nat.{_<_, _≤_}
+use Prim.Native.Nat.{_<_}
 use native.Mathlib.Omega.{arith}
-use lib.Dec.{T, le→leb, lit<}
+use lib.Dec.{le→leb, lit<}
 use lib.IntN.{ℤ, pos, negsuc}
 use lib.Signed.{_≤ℤ_, mag, leZ-yes}
 use mir.Syntax.{w64}
