@@ -29,7 +29,7 @@ use Rattle.asked.proofs.Numbers.{plane-passed}
 use Rattle.counted.specs.Whole.{Whole}
 use Rattle.counted.proofs.Laws.{changed-flat}
 use Rattle.restoration.proofs.Answers.{written-whole}
-use Rattle.worked.specs.Work.{jobWith, workAnswer, workRows, reportOf}
+use Rattle.worked.specs.Work.{jobWith, workAnswer, workRows, reportOf, differing}
 use Rattle.worked.proofs.Run.{passed, in-place-whole}
 
 -- ---- marks of one to three stripes
@@ -89,16 +89,16 @@ module _ (j : Job) (r : Bounded j) (z : first (jobTests j) ≡ 0) where
   pub plane-whole : (t : List ℤ) → t ≡ inPlace j (jobStripes j) .plane → length t ≡ samples f → Whole t
   plane-whole t e l = rows-whole t (e ∙ in-place-whole j r z) l
 
-  pub counted-differs : (out t P : List ℤ) (n k : ℕ) → t ≡ workRows j out → P ≡ inPlace j (jobStripes j) .plane → k ≡ samples f →
-      n ≡ sum k (λ i. cond (eqb (natAbs (getD t i (pos 0))) (natAbs (getD P i (pos 0)))) 0 1) → n ≡ jobDiffers j
-  unfolding jobDiffers
-  counted-differs out t P n k e p l q =
-      q ∙ ap (λ m. sum m (λ i. cond (eqb (natAbs (getD t i (pos 0))) (natAbs (getD P i (pos 0)))) 0 1)) l ∙ changed-flat (planeHeight f) (planeWidth f) t P
+  counted-differs : (out t P : List ℤ) → t ≡ workRows j out → P ≡ inPlace j (jobStripes j) .plane → length P ≡ samples f → differing t P ≡ jobDiffers j
+  unfolding jobDiffers differing
+  counted-differs out t P e p l =
+      ap (λ m. sum m (λ i. cond (eqb (natAbs (getD t i (pos 0))) (natAbs (getD P i (pos 0)))) 0 1)) l ∙ changed-flat (planeHeight f) (planeWidth f) t P
       ∙ ap2 (λ a b. changed (planeHeight f) (planeWidth f) (grid (planeWidth f) a) (grid (planeWidth f) b)) (e ∙ rows-done out) p
 
-  pub done-answer : (s : Report) (c d : ℕ) → s ≡ reportOf f c d → c ≡ planeChanged f (j .units) (j .deblocked) (j .cdef) → d ≡ jobDiffers j → (0, s) ≡ workAnswer j
+  pub done-answer : (s : Report) (c : ℕ) (out t P : List ℤ) → s ≡ reportOf f c (differing t P) → c ≡ planeChanged f (j .units) (j .deblocked) (j .cdef) →
+      t ≡ workRows j out → P ≡ inPlace j (jobStripes j) .plane → length P ≡ samples f → (0, s) ≡ workAnswer j
   unfolding workAnswer reportOf jobReport jobStripes
-  done-answer s c d e p q = ap (byNumber 0) (e ∙ ap2 (reportOf f) p q) ∙ sym (ap (λ k. byNumber k (jobReport j)) z)
+  done-answer s c out t P q p e i l = ap (byNumber 0) (q ∙ ap2 (reportOf f) p (counted-differs out t P e i l)) ∙ sym (ap (λ k. byNumber k (jobReport j)) z)
 
 -- ---- the job that was read
 -- room keeps its length

@@ -3,9 +3,8 @@ pub mod refused; // refused.rt: the number of a refused job
 pub mod report; // report.rt: the numbers that are printed of a plane
 pub mod stripes; // stripes.rt: the run in place
 
-use crate::report::report;
+use crate::report::compared;
 use crate::stripes::by_stripes;
-use counted::count_changed;
 use job::read_job;
 use restoration::restore_plane;
 use standard::Frame;
@@ -67,8 +66,7 @@ fn work(f: Frame, units: &[i32], deblocked: &[i32], cdef: &mut [i32], out: &mut 
         Restored::Refused(why) => JobRan::Refused(JobRefusal::Table(why)),
         Restored::Done(changed) => {
             by_stripes(f, units, deblocked, cdef, &mut scratch);
-            let differs = count_changed(out, cdef);
-            JobRan::Done(report(f, changed, differs))
+            JobRan::Done(compared(f, changed, out, cdef))
         }
     }
 }

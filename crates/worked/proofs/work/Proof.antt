@@ -9,7 +9,7 @@ use Rattle.standard.specs.Refusals.{first, samples}
 use Rattle.standard.specs.Job.{Job, jobTests}
 use Rattle.worked.specs.Work.{jobWith, workRows}
 use Rattle.worked.proofs.Run.{passed}
-use Rattle.worked.proofs.Laws.{plane-done, plane-refused, same-number, same-rows, refused-answer, out-whole, plane-whole, counted-differs, done-answer}
+use Rattle.worked.proofs.Laws.{plane-done, plane-refused, same-number, same-rows, refused-answer, out-whole, plane-whole, done-answer}
 use borrow.Author.Needs.{needs}
 use Rattle.worked.proofs.work.Statement.{statement}
 use Rattle.worked.proofs.work.Tie as tie
@@ -56,13 +56,10 @@ enum-known-t-2 c = search needs
 by-stripes-requires : tie.Need-by-stripes-requires
 by-stripes-requires c κs = let k = c .before .before in (start (call k) .pre .0, zero k)
 
-count-changed-requires : tie.Need-count-changed-requires
-count-changed-requires c κs = let k = c .before .before .before .before .before .before in let b = c .before .before .before in let r = start (call k) .pre .0 in
+compared-requires : tie.Need-compared-requires
+compared-requires c κs = let k = c .before .before .before .before .before .before in let b = c .before .before .before in let r = start (call k) .pre .0 in
     let same = b .by-stripes .kept .1 .1 .1 .0 in
-    ((out-long k ∙ sym same, omega (arith, same, r .cdef)), (out-whole (job (call k)) r (zero k) _ _ (rows (call k)) (out-long k ∙ long k), plane-whole (job (call k)) r (zero k) _ (b .by-stripes .ensures) (same ∙ long k)))
-
-report-requires : tie.Need-report-requires
-report-requires c κs = let k = c .before .before .before .before .before .before .before in passed (job (call k)) (start (call k) .pre .0) (zero k) .legal
+    (passed (job (call k)) r (zero k) .legal, out-long k ∙ sym same, omega (arith, same, r .cdef), out-whole (job (call k)) r (zero k) _ _ (rows (call k)) (out-long k ∙ long k), plane-whole (job (call k)) r (zero k) _ (b .by-stripes .ensures) (same ∙ long k))
 
 same-length : tie.Need-same-length
 same-length c = search needs
@@ -83,12 +80,8 @@ same-length-4 : tie.Need-same-length-4
 same-length-4 c = search needs
 
 returns-2 : tie.Need-returns-2
-returns-2 c = let k = c .before .before .before .before .before .before .before .before in let b = c .before .before .before .before .before in let r = start (call k) .pre .0 in
-    let same = b .by-stripes .kept .1 .1 .1 .0 in (
-      done-answer (job (call k)) r (zero k) _ _ _ (c .report .ensures) (plane-done _ _ _ _ _ _ _ (answer k) .1)
-          (counted-differs (job (call k)) r (zero k) _ _ _ _ _ (rows (call k)) (b .by-stripes .ensures) (same ∙ long k) (c .before .count-changed .ensures)),
-      rows (call k),
-    )
+returns-2 c = let k = c .before .before .before .before .before .before .before in let b = c .before .before .before .before in let r = start (call k) .pre .0 in
+    (done-answer (job (call k)) r (zero k) _ _ _ _ _ (c .compared .ensures) (plane-done _ _ _ _ _ _ _ (answer k) .1) (rows (call k)) (b .by-stripes .ensures) (b .by-stripes .kept .1 .1 .1 .0 ∙ long k), rows (call k))
 
 pub work-spec : {M : Type 1} → statement M
 work-spec =
@@ -99,8 +92,7 @@ work-spec =
     enum-known-t
     enum-known-t-2
     by-stripes-requires
-    count-changed-requires
-    report-requires
+    compared-requires
     same-length
     same-length-2
     returns
