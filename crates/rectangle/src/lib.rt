@@ -47,23 +47,8 @@ pub fn restore_rect<'a>(
         Kind::Wiener(t) => {
             wiener_rect(out, inside, beside, w, h, r, x0, y0, rw, rh, s, t, d);
         }
-        Kind::SelfGuided(weights) => {
-            guided_rect(
-                out,
-                inside,
-                beside,
-                w,
-                h,
-                r,
-                x0,
-                y0,
-                rw,
-                rh,
-                s,
-                weights,
-                d,
-                tab,
-            );
+        Kind::SelfGuided(g) => {
+            guided_rect(out, inside, beside, w, h, r, x0, y0, rw, rh, s, g, d, tab);
         }
     }
 }

@@ -51,22 +51,9 @@ pub fn restore_unit<'a>(
     let cols = units(w, f.unit_size);
     let u = unit_at(f.plane, table, (row * cols + col) as usize);
     let kind = u.kind;
-    restore_rect(
-        out,
-        inside,
-        beside,
-        w as usize,
-        h as usize,
-        r,
-        x,
-        y,
-        rw,
-        rh,
-        s,
-        kind,
-        d,
-        tab,
-    );
+    let w = w as usize;
+    let h = h as usize;
+    restore_rect(out, inside, beside, w, h, r, x, y, rw, rh, s, kind, d, tab);
 }
 
 // The rectangles of stripe s, left to right.

@@ -106,11 +106,11 @@ cast-unit-at c = omega (arith, small c)
 unit-at-requires : tie.Need-unit-at-requires
 unit-at-requires c κs = let p = st c .pre .0 .0 in (omega (arith, entry-in p (st c .args .k), index c), subst (λ (e : ℕ). T (legalEntry (st c .args .f .plane) (st c .args .table .now) e)) (sym (index c)) (entry-legal p (st c .args .k)))
 
-cast-restore-rect : tie.Need-cast-restore-rect
-cast-restore-rect c = search needs
+cast-w : tie.Need-cast-w
+cast-w c = search needs
 
-cast-restore-rect-2 : tie.Need-cast-restore-rect-2
-cast-restore-rect-2 c = search needs
+cast-h : tie.Need-cast-h
+cast-h c = search needs
 
 restore-rect-requires : tie.Need-restore-rect-requires
 restore-rect-requires c κs = let u = c .before .before in let m = u .before in let s = st m in let t = fitted m in let l = s .pre .0 .0 .legal in
@@ -142,8 +142,8 @@ restore-unit-spec =
     add-unit-at
     cast-unit-at
     unit-at-requires
-    cast-restore-rect
-    cast-restore-rect-2
+    cast-w
+    cast-h
     restore-rect-requires
     same-length
     same-length-2
