@@ -90,6 +90,30 @@ static void edges(void) {
     same_number("edges, too short", (int32_t)cironetop_capture_edges(f, deblocked, 120, found, 7), 9);
 }
 
+/* Value B in place, then each slice's length and the stripe's number made wrong: most of the fourteen arguments lie on the stack. */
+static void stripes(void) {
+    static const uint32_t number[6] = {10, 9, 7, 12, 16, 16};
+    static const int32_t units[11] = {1, 3, -7, 15, 3, -7, 15, 0, 0, 0}, edges[1], expected[7] = {2, 0, 12, 83, 12, 0, 2};
+    static int32_t scratch[6 * 15 * 9], copy[7];
+    cironetop_frame f = {0, 0, 0, 8, 1, 7, 64, 1};
+    int32_t plane[8] = {0, 0, 0, 100}, before[8];
+    uint8_t marks[2] = {0}, marked[2] = {1};
+    memcpy(before, plane, sizeof plane);
+    for (int k = 0; k < 6; k++) {
+        size_t n[6] = {10, 0, 7, 1, 6 * 15 * 9, 7};
+        n[k] += k < 4 ? 1 : -1;
+        uint32_t found = cironetop_restore_stripe(f, 0, units, n[0], edges, n[1], plane, n[2], marks, n[3], scratch, n[4], copy, n[5]);
+        same_number("stripe refused", (int32_t)found, (int32_t)number[k]);
+        same("stripe refused: plane", plane, before, sizeof plane);
+    }
+    uint32_t past = cironetop_restore_stripe(f, 1, units, 10, edges, 0, plane, 7, marks, 1, scratch, 6 * 15 * 9, copy, 7);
+    same_number("stripe past the last", (int32_t)past, 13);
+    uint32_t done = cironetop_restore_stripe(f, 0, units, 10, edges, 0, plane, 7, marks, 1, scratch, 6 * 15 * 9, copy, 7);
+    same_number("stripe B", (int32_t)done, 0);
+    same("stripe B: plane", plane, expected, sizeof expected);
+    same("stripe B: marks", marks, marked, sizeof marks);
+}
+
 /* Value J, and each number made wrong. */
 static void upscaling(void) {
     static const uint32_t wrong[12] = {3, 2, 1, 9, 0, 16385, 0, 0, 2, 9, 2, 17}, number[12] = {2, 2, 2, 1, 4, 4, 4, 7, 7, 7, 7, 7};
@@ -114,6 +138,7 @@ int main(void) {
     samples();
     planes();
     edges();
+    stripes();
     upscaling();
     printf("boundary: %d answers from C, %d differences\n", calls, differences);
     return differences == 0 ? EXIT_SUCCESS : EXIT_FAILURE;
