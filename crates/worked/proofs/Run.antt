@@ -96,7 +96,7 @@ unfolding first
 no-test = refl
 
 -- ---- bounds of the job program
-extent-small : {sub : ℕ} → Halved sub → (side : ℕ) → roundℕ sub side ≤ side
+pub extent-small : {sub : ℕ} → Halved sub → (side : ℕ) → roundℕ sub side ≤ side
 unfolding roundℕ
 extent-small full side = omega arith
 extent-small half side = omega arith
@@ -120,7 +120,7 @@ copied : {sy : ℕ} → Halved sy → (h w : ℕ) → w ≤ 8 → copyNeed sy h 
 unfolding copyNeed
 copied k h w p = mul-small 8 64 p (stripe-high k h)
 
-scratched : {sy : ℕ} → Halved sy → (h w : ℕ) → w ≤ 8 → scratchNeed sy h w ≤ 6912
+pub scratched : {sy : ℕ} → Halved sy → (h w : ℕ) → w ≤ 8 → scratchNeed sy h w ≤ 6912
 unfolding scratchNeed
 scratched k h w p = mul-small 96 72 (omega arith) (omega (arith, stripe-high k h))
 

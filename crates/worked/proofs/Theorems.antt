@@ -1,25 +1,28 @@
 -- What is known of a job that is not refused: no call that the program makes of it is refused, its in-place run differs nowhere, and its
 -- numbers are within the bounds. And no second answer keeps the promise of `run_job`.
 use mathlib.Core.Path.{_≡_, refl, sym, ap, _∙_, subst}
-use mathlib.Core.Bool.{Bool, true, false, cond}
+use mathlib.Core.Bool.{Bool, true, false, cond, _&&_}
 use mathlib.Core.List.{List, _++_}
 use mathlib.Core.Logic.{_⊎_, inl, inr}
 use Prim.Native.Nat.{ℕ, zero, suc, _+_, _-_, _*_, _≤_, _<_}
 use native.Mathlib.Omega.{arith}
-use lib.Dec.{T, eqb, eqb→eq, ltb}
+use lib.Dec.{T, eqb, eqb→eq, ltb, ltb→lt}
 use lib.IntN.{ℤ, pos}
 use lib.ListN.{length, getD, drop, replicate, List·getD-append, getD-replicate, length-replicate, length-append, length-drop}
 use lib.Seq.{getD-append-add, getD-drop}
 use lib.Signed.{_≤ℤ_, leZ-yes}
 use Rattle.laws.specs.Index.{lt-or-le, mul-small}
+use Rattle.laws.specs.Tests.{and-r, is-true, is-false, or-no}
 use Rattle.standard.specs.declared.JobRan.{JobRan}
 use Rattle.standard.specs.declared.Report.{Report}
 use Rattle.standard.specs.Answers.{ofJobRan, noReport}
 use Rattle.standard.specs.Stripes.{stripes}
-use Rattle.standard.specs.Refusals.{first, captureTests, planeHeight, planeWidth, subY}
+use Rattle.standard.specs.Refusals.{first, captureTests, no4, planeHeight, planeTests, planeWidth, scratchNeed, subX, subY}
 use Rattle.standard.specs.Calls.{ifDone, stripeCallNumber}
-use Rattle.standard.specs.Job.{jobOf, no17, no18, formTests, laid, jobTests, jobNumber, jobRows, jobCall, jobStripes, inPlace, jobDiffers, jobReport, runAnswer, runRows}
+use Rattle.standard.specs.Job.{Job, jobOf, no17, no18, formTests, laid, jobTests, jobNumber, jobRows, jobCall, jobStripes, inPlace, jobDiffers, jobReport, runAnswer, runRows}
 use Rattle.standard.proofs.Answers.{job-ran-once}
+use Rattle.standard.proofs.Refusals.{Lowest, nth, plane-table}
+use Rattle.frames.proofs.Legal.{LegalFrame, halved, legal-frame}
 use Rattle.standard.proofs.Job.{Bounded, bounded}
 use Rattle.counted.specs.Whole.{Whole}
 use Rattle.worked.proofs.Run as run
@@ -53,6 +56,46 @@ module _ (b : List ℕ) (z : jobNumber b ≡ 0) where
 
   pub differs-nowhere : jobDiffers (jobOf b) ≡ 0
   differs-nowhere = run.differs-none (jobOf b) bounds (passes .1)
+
+-- the program's scratch is long enough for every job within the bounds: 16 is never given
+module _ (j : Job) (r : Bounded j) (e : first (jobTests j) ≡ 16) where
+  table : Lowest (jobTests j)
+  unfolding jobTests
+  table = plane-table (j .frame) (j .units) (j .deblocked) (j .cdef) (length (j .cdef)) 6912
+
+  -- a test with a lower number does not hold
+  lower : (k : ℕ) → nth (jobTests j) k .0 < 16 → nth (jobTests j) k .1 ≡ false
+  lower k h = is-false (nth (jobTests j) k .1) (λ t. omega (arith, table .lowest k (is-true (nth (jobTests j) k .1) t) .1))
+
+  legal : LegalFrame (j .frame)
+  unfolding jobTests planeTests
+  legal = let sides = or-no (no4 (j .frame .«frame_height»)) (no4 (j .frame .«upscaled_width»)) (lower 3 (omega arith)) in legal-frame (j .frame) (lower 1 (omega arith)) (sides .0) (sides .1)
+
+  room : scratchNeed (subY (j .frame)) (planeHeight (j .frame)) (planeWidth (j .frame)) ≤ 6912
+  room = run.scratched (halved (subY (j .frame)) (legal .own-y)) (planeHeight (j .frame)) (planeWidth (j .frame))
+      (omega (arith, run.extent-small (halved (subX (j .frame)) (legal .own-x)) (j .frame .«upscaled_width»), r .width))
+
+  long-enough : (t : Bool) → (t && ltb 6912 (scratchNeed (subY (j .frame)) (planeHeight (j .frame)) (planeWidth (j .frame)))) ≡ true → ⊥
+  long-enough t q =
+      let need = scratchNeed (subY (j .frame)) (planeHeight (j .frame)) (planeWidth (j .frame)) in
+      omega (arith, room, ltb→lt 6912 need (and-r t (ltb 6912 need) (subst T (sym q) tt)))
+
+  last-test : (k : ℕ) → nth (jobTests j) k .0 ≡ 16 → nth (jobTests j) k .1 ≡ true → ⊥
+  unfolding jobTests planeTests
+  last-test zero p q = omega arith
+  last-test (suc zero) p q = omega arith
+  last-test (suc (suc zero)) p q = omega arith
+  last-test (suc (suc (suc zero))) p q = omega arith
+  last-test (suc (suc (suc (suc zero)))) p q = omega arith
+  last-test (suc (suc (suc (suc (suc zero))))) p q = omega arith
+  last-test (suc (suc (suc (suc (suc (suc zero)))))) p q = omega arith
+  last-test (suc (suc (suc (suc (suc (suc (suc zero))))))) p q = omega arith
+  last-test (suc (suc (suc (suc (suc (suc (suc (suc zero)))))))) p q = omega arith
+  last-test (suc (suc (suc (suc (suc (suc (suc (suc (suc zero))))))))) p q = long-enough (ltb 0 (j .frame .«frame_type»)) q
+  last-test (suc (suc (suc (suc (suc (suc (suc (suc (suc (suc k)))))))))) p q = omega arith
+
+  pub never-16 : ⊥
+  never-16 = let g = table .sound (omega (arith, e)) in last-test (g .place) (g .number ∙ e) (g .holds)
 
 -- what is printed of it
 abbrev byNumber : ℕ → Report → ℕ × Report
