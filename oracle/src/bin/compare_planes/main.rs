@@ -17,7 +17,7 @@ fn main() -> ExitCode {
         planes_of_note(options, report);
         random_planes(options, report);
         damaged_calls(options, report);
-        decoders_planes(options, report);
+        decoders_planes(report);
         report.saw_all("whole plane", OF_PLANE);
     })
 }
@@ -97,15 +97,11 @@ fn damaged_calls(options: &Options, report: &mut Report) {
     }
 }
 
-fn decoders_planes(options: &Options, report: &mut Report) {
-    let mut index = 0;
+fn decoders_planes(report: &mut Report) {
     let mut rng = Rng::for_case("compare decoders' planes", 0);
     vectors::restorations(report, |report, name, picture| {
-        index += 1;
-        if options.takes(index, 9) {
-            let call = PlaneCall::new(&mut rng, &picture.case);
-            held(report, call, Some(picture.restored), name);
-            report.count("decoders' planes", 1);
-        }
+        let call = PlaneCall::new(&mut rng, &picture.case);
+        held(report, call, Some(picture.restored), name);
+        report.count("decoders' planes", 1);
     });
 }
