@@ -1,3 +1,4 @@
+pub mod BlockLaws
 pub mod SharpLaws
 pub mod PlainLaws
 pub mod SoftLaws

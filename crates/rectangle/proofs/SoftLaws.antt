@@ -68,9 +68,6 @@ module _ (d : Depth) (inside beside : List ℤ) (w h : ℕ) (r : Source) (f : Fe
 pub scratch-room : (w h : ℕ) → (h + 6) * (w + 6) ≤ 6 * (w + 8) * (h + 8)
 scratch-room w h = omega (arith, mul-le-mul {n₁ = h + 6} {m₁ = w + 6} {n₂ = h + 8} {m₂ = w + 8} (omega arith) (omega arith), mul-comm (h + 8) (w + 8), mul-assoc 6 (w + 8) (h + 8))
 
-pub sharp-room : (w h : ℕ) → (h + 6) * w ≤ 6 * (w + 8) * (h + 8)
-sharp-room w h = omega (arith, mul-le-mul {n₁ = h + 6} {m₁ = w} {n₂ = h + 8} {m₂ = w + 8} (omega arith) (omega arith), mul-comm (h + 8) (w + 8), mul-assoc 6 (w + 8) (h + 8))
-
 -- ---- the arms of the definition, where the unit's kind is known
 pub sharp-shown : (d : Depth) (k : Kind) (t : Taps) (inside beside : List ℤ) (w h : ℕ) (r : Source) (x0 y0 m n : ℕ) (out : List ℤ) → k ≡ Wiener t →
     paint x0 y0 m n w (λ y x. pos (wiener d t (viewAt inside beside w h r y x))) out ≡ paint x0 y0 m n w (shownAt d k inside beside w h r) out

@@ -1,10 +1,11 @@
 // One rectangle restored by its unit, from a stripe's source.
-pub mod sharp; // sharp.rt: a rectangle of a Wiener unit
+pub mod sharp; // sharp.rt: a block of a Wiener unit
+pub mod blocks; // blocks.rt: a rectangle of a Wiener unit, block by block
 pub mod plain; // plain.rt: a rectangle without a filter
 pub mod soft; // soft.rt: a rectangle of a self-guided unit
 
+use crate::blocks::wiener_rect;
 use crate::plain::plain_rect;
-use crate::sharp::wiener_rect;
 use crate::soft::guided_rect;
 use fetch::Source;
 use standard::Depth;
@@ -45,7 +46,7 @@ pub fn restore_rect<'a>(
             plain_rect(out, inside, beside, w, h, r, x0, y0, rw, rh, d);
         }
         Kind::Wiener(t) => {
-            wiener_rect(out, inside, beside, w, h, r, x0, y0, rw, rh, s, t, d);
+            wiener_rect(out, inside, beside, w, h, r, x0, y0, rw, rh, t, d);
         }
         Kind::SelfGuided(g) => {
             guided_rect(out, inside, beside, w, h, r, x0, y0, rw, rh, s, g, d, tab);

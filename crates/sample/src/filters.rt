@@ -23,7 +23,7 @@ pub fn wiener_sample(s: &[i32], t: Taps, d: Depth) -> i32
     ensures { λ r. ⌜ r ≡ pos (wiener d t (seenAt (now (s .entry)))) ⌝ }
 {
     let mut out = [0i32; 1];
-    let mut middle = [0i32; 7];
+    let mut middle = [0i16; 7];
     wiener_window(&mut out, 0, 1, s, 0, 7, 1, 1, &mut middle, t, d);
     out[0]
 }

@@ -4,7 +4,6 @@ use mathlib.Core.List.{List, [], _∷_}
 use mathlib.Core.Bool.{Bool, true, false, cond, not}
 use Prim.Native.Nat.{ℕ, _+_, _*_, _-_, _^_, _<_, _≤_, min}
 use native.Mathlib.Omega.{arith}
-use native.Mathlib.Nat.{le-trans}
 use lib.Dec.{T, lit≤, lit<, ltb, ltb→lt, nltb→le}
 use lib.IntN.{ℤ, pos, negsuc, natAbs, negℤ, _+ℤ_, _-ℤ_, _*ℤ_}
 use lib.ListN.{getD}
@@ -82,10 +81,21 @@ across-add Eight = lit≤ tt
 across-add Ten = lit≤ tt
 across-add Twelve = lit≤ tt
 
-across-top : (d : Depth) → natAbs (pos (limit d) -ℤ pos 16384) ≤ 32768
-across-top Eight = lit≤ tt
-across-top Ten = lit≤ tt
-across-top Twelve = lit≤ tt
+across-top : (d : Depth) → mag (pos (limit d) -ℤ pos 16384) < 32768
+across-top Eight = lit< tt
+across-top Ten = lit< tt
+across-top Twelve = lit< tt
+
+across-order : (d : Depth) → negsuc 16383 ≤ℤ (pos (limit d) -ℤ pos 16384)
+across-order Eight = record { le = tt }
+across-order Ten = record { le = tt }
+across-order Twelve = record { le = tt }
+
+mag-at : {x y : ℤ} → x ≡ y → mag y < 32768 → mag x < 32768
+mag-at e h = subst (λ (z : ℤ). mag z < 32768) (sym e) h
+
+order-at : {x x′ y y′ : ℤ} → x ≡ x′ → y ≡ y′ → x′ ≤ℤ y′ → x ≤ℤ y
+order-at {x} {x′} {y} {y′} p q h = subst (λ (z : ℤ). z ≤ℤ y) (sym p) (subst (λ (z : ℤ). x′ ≤ℤ z) (sym q) h)
 
 down-add : (d : Depth) → natAbs (pos (2 ^ (r1 d - 1)) -ℤ bias d *ℤ pos 128) ≤ 16777216
 unfolding bias
@@ -97,17 +107,38 @@ pub across-mild : {d : Depth} {a : Rounding} → AcrossNumbers d a → Mild a
 across-mild {d} p = record {
   add-size = abs-at (p .add-is) (across-add d);
   shift-size = omega (arith, p .shift-is, r0-high d);
-  low-size = abs-at (p .low-is) (lit≤ tt);
-  high-size = abs-at (p .high-is) (across-top d);
+  low-size = mag-at (p .low-is) (lit< tt);
+  high-size = mag-at (p .high-is) (across-top d);
+  order = order-at (p .low-is) (p .high-is) (across-order d);
 }
 
 pub down-mild : {d : Depth} {a : Rounding} → DownNumbers d a → Mild a
 down-mild {d} p = record {
   add-size = abs-at (p .add-is) (down-add d);
   shift-size = omega (arith, p .shift-is, r1-high d);
-  low-size = abs-at (p .low-is) (lit≤ tt);
-  high-size = abs-at (p .high-is) (le-trans (largest-high d) (lit≤ tt));
+  low-size = mag-at (p .low-is) (lit< tt);
+  high-size = mag-at (p .high-is) (omega (arith, largest-high d));
+  order = order-at (p .low-is) (p .high-is) (le-out (omega arith));
 }
+
+-- ---- the clip: its two ends one after the other, and its size
+pub clip-ends : (lo hi x : ℤ) → lo ≤ℤ hi → cond (ltZ hi (cond (ltZ x lo) lo x)) hi (cond (ltZ x lo) lo x) ≡ clip3 lo hi x
+unfolding clip3
+clip-ends lo hi x h = go (ltZ x lo)
+  where
+    go : (t : Bool) → cond (ltZ hi (cond t lo x)) hi (cond t lo x) ≡ cond t lo (cond (ltZ hi x) hi x)
+    go true = ap (λ (s : Bool). cond s hi lo) (false-lt {x = hi} {y = lo} h)
+    go false = refl
+
+mag-between : (lo hi z : ℤ) → mag lo < 32768 → mag hi < 32768 → lo ≤ℤ z → z ≤ℤ hi → mag z < 32768
+mag-between lo (pos b) (pos n) p q r s = omega (arith, le-in s)
+mag-between lo (negsuc b) (pos n) p q r s = absurd (omega (arith, le-in s))
+mag-between (negsuc a) hi (negsuc n) p q r s = omega (arith, le-in r)
+mag-between (pos a) hi (negsuc n) p q r s = absurd (omega (arith, le-in r))
+
+pub settled-fits : {a : Rounding} → Mild a → (z : ℤ) → mag (settled a z) < 32768
+unfolding settled
+settled-fits {a} p z = let r = clip3-range (a .low) (a .high) (shrZ (z +ℤ a .add) (2 ^ a .shift)) (p .order) in mag-between _ _ _ (p .low-size) (p .high-size) (r .0) (r .1)
 
 -- ---- the bias goes through shift and clip
 shift-8 : (x b : ℤ) → shrZ (x +ℤ b *ℤ pos 8) 8 ≡ shrZ x 8 +ℤ b

@@ -8,6 +8,9 @@ use lib.Dec.{lit≤}
 use lib.IntN.{ℤ, pos, negsuc, natAbs, _+ℤ_, _*ℤ_}
 use lib.ListN.{getD}
 use lib.Signed.{mag}
+use mir.Syntax.{w16}
+use mir.Val.{toZ, ofZ}
+use mir.Facts.{toZ-ofZ}
 use Rattle.laws.specs.Congruence.{ap2}
 use Rattle.laws.specs.Polynomial.{X, C, _⊹_, _⋆_, identity}
 use Rattle.laws.specs.SignedCode.{Expression, Var, _⊕_, _⊗_, bounded}
@@ -24,6 +27,13 @@ pair-fits (pos a) (pos b) p q = omega arith
 pair-fits (pos a) (negsuc b) p q = omega (arith, mag-abs (pos a +ℤ negsuc b), abs-add (pos a) (negsuc b))
 pair-fits (negsuc a) (pos b) p q = omega (arith, mag-abs (negsuc a +ℤ pos b), abs-add (negsuc a) (pos b))
 pair-fits (negsuc a) (negsuc b) p q = omega arith
+
+-- the sum of two is read back from 16 bits as it was
+pub pair-kept : (x y : ℤ) → mag x < 16384 → mag y < 16384 → toZ w16 (ofZ w16 (x +ℤ y)) ≡ x +ℤ y
+pair-kept x y p q = toZ-ofZ {w = w16} (record { sfits = pair-fits x y p q })
+
+pub half-kept : (x : ℤ) → mag x < 16384 → toZ w16 (ofZ w16 x) ≡ x
+half-kept x p = toZ-ofZ {w = w16} (record { sfits = omega arith })
 
 abbrev pub pair : (x y : ℤ) → mag x < 16384 → mag y < 16384 → Expression
 pair x y p q = Var x 16384 (half-size x p) ⊕ Var y 16384 (half-size y q)
@@ -61,11 +71,11 @@ module _ {k c st : ℕ} {tr s : List ℤ} (p : SevenHalves c st s) (q : Narrow k
 
 -- the same, at the places as the code writes them
 pub paired : (tr : List ℤ) (k : ℕ) (s : List ℤ) (c st : ℕ) →
-    (getD s c (pos 0) +ℤ getD s (c + 6 * st) (pos 0)) *ℤ getD tr k (pos 0) +ℤ (getD s (c + st) (pos 0) +ℤ getD s (c + 5 * st) (pos 0)) *ℤ getD tr (384 + k) (pos 0)
-    +ℤ (getD s (c + 2 * st) (pos 0) +ℤ getD s (c + 4 * st) (pos 0)) *ℤ getD tr (768 + k) (pos 0) +ℤ getD s (c + 3 * st) (pos 0) *ℤ getD tr (1152 + k) (pos 0) ≡ seven tr k s c st
+    (getD s c (pos 0) +ℤ getD s (c + 6 * st) (pos 0)) *ℤ getD tr k (pos 0) +ℤ (getD s (c + st) (pos 0) +ℤ getD s (c + 5 * st) (pos 0)) *ℤ getD tr (64 + k) (pos 0)
+    +ℤ (getD s (c + 2 * st) (pos 0) +ℤ getD s (c + 4 * st) (pos 0)) *ℤ getD tr (128 + k) (pos 0) +ℤ getD s (c + 3 * st) (pos 0) *ℤ getD tr (192 + k) (pos 0) ≡ seven tr k s c st
 unfolding seven
 paired tr k s c st =
     let f : ℕ → ℤ = λ i. getD s i (pos 0) in let t : ℕ → ℤ = λ i. getD tr i (pos 0) in
-    ap2 (λ a b. (f a +ℤ f (c + 6 * st)) *ℤ t k +ℤ (f b +ℤ f (c + 5 * st)) *ℤ t (384 + k) +ℤ (f (c + 2 * st) +ℤ f (c + 4 * st)) *ℤ t (768 + k) +ℤ f (c + 3 * st) *ℤ t (1152 + k))
+    ap2 (λ a b. (f a +ℤ f (c + 6 * st)) *ℤ t k +ℤ (f b +ℤ f (c + 5 * st)) *ℤ t (64 + k) +ℤ (f (c + 2 * st) +ℤ f (c + 4 * st)) *ℤ t (128 + k) +ℤ f (c + 3 * st) *ℤ t (192 + k))
     {a = c} {a′ = c + 0 * st} {b = c + st} {b′ = c + 1 * st} (omega arith) (omega arith)
-    ∙ pairs (t k) (t (384 + k)) (t (768 + k)) (t (1152 + k)) (λ j. f (c + j * st))
+    ∙ pairs (t k) (t (64 + k)) (t (128 + k)) (t (192 + k)) (λ j. f (c + j * st))

@@ -48,15 +48,15 @@ four-sized {c0} {c1} {c2} p e = record { size = λ k u v. subst (λ (s : List �
     each (suc (suc (suc (suc k)))) v = absurd (omega arith)
 
 -- ---- the rows
-module _ (c0 c1 c2 m : ℤ) (n : ℕ) (tr l : List ℤ) (e : l ≡ tapRows c0 c1 c2 m n tr) (p : n ≤ 384) (long : 1536 ≤ length tr) where
+module _ (c0 c1 c2 m : ℤ) (n : ℕ) (tr l : List ℤ) (e : l ≡ tapRows c0 c1 c2 m n tr) (p : n ≤ 64) (long : 256 ≤ length tr) where
   abbrev l1 : List ℤ
   l1 = stamp (λ _. c0) 0 n tr
 
   abbrev l2 : List ℤ
-  l2 = stamp (λ _. c1) 384 n l1
+  l2 = stamp (λ _. c1) 64 n l1
 
   abbrev l3 : List ℤ
-  l3 = stamp (λ _. c2) 768 n l2
+  l3 = stamp (λ _. c2) 128 n l2
 
   long1 : length l1 ≡ length tr
   long1 = stamp-length _ _ _ _
@@ -67,27 +67,27 @@ module _ (c0 c1 c2 m : ℤ) (n : ℕ) (tr l : List ℤ) (e : l ≡ tapRows c0 c1
   long3 : length l3 ≡ length tr
   long3 = stamp-length _ _ _ _ ∙ long2
 
-  last : l ≡ stamp (λ _. m) 1152 n l3
+  last : l ≡ stamp (λ _. m) 192 n l3
   unfolding tapRows
   last = e
 
   at-0 : (k : ℕ) → k < n → getD l k (pos 0) ≡ c0
   at-0 k h =
-      stamp-before _ 1152 n l3 l k (pos 0) last (omega arith) ∙ stamp-before _ 768 n l2 l3 k (pos 0) refl (omega arith)
-      ∙ stamp-before _ 384 n l1 l2 k (pos 0) refl (omega arith) ∙ stamp-at (λ _. c0) 0 n tr l1 k k (pos 0) refl (omega arith) h (omega arith)
+      stamp-before _ 192 n l3 l k (pos 0) last (omega arith) ∙ stamp-before _ 128 n l2 l3 k (pos 0) refl (omega arith)
+      ∙ stamp-before _ 64 n l1 l2 k (pos 0) refl (omega arith) ∙ stamp-at (λ _. c0) 0 n tr l1 k k (pos 0) refl (omega arith) h (omega arith)
 
-  at-1 : (k : ℕ) → k < n → getD l (384 + k) (pos 0) ≡ c1
+  at-1 : (k : ℕ) → k < n → getD l (64 + k) (pos 0) ≡ c1
   at-1 k h =
-      stamp-before _ 1152 n l3 l (384 + k) (pos 0) last (omega arith) ∙ stamp-before _ 768 n l2 l3 (384 + k) (pos 0) refl (omega arith)
-      ∙ stamp-at (λ _. c1) 384 n l1 l2 k (384 + k) (pos 0) refl (omega (arith, long1)) h (omega arith)
+      stamp-before _ 192 n l3 l (64 + k) (pos 0) last (omega arith) ∙ stamp-before _ 128 n l2 l3 (64 + k) (pos 0) refl (omega arith)
+      ∙ stamp-at (λ _. c1) 64 n l1 l2 k (64 + k) (pos 0) refl (omega (arith, long1)) h (omega arith)
 
-  at-2 : (k : ℕ) → k < n → getD l (768 + k) (pos 0) ≡ c2
-  at-2 k h = stamp-before _ 1152 n l3 l (768 + k) (pos 0) last (omega arith) ∙ stamp-at (λ _. c2) 768 n l2 l3 k (768 + k) (pos 0) refl (omega (arith, long2)) h (omega arith)
+  at-2 : (k : ℕ) → k < n → getD l (128 + k) (pos 0) ≡ c2
+  at-2 k h = stamp-before _ 192 n l3 l (128 + k) (pos 0) last (omega arith) ∙ stamp-at (λ _. c2) 128 n l2 l3 k (128 + k) (pos 0) refl (omega (arith, long2)) h (omega arith)
 
-  at-3 : (k : ℕ) → k < n → getD l (1152 + k) (pos 0) ≡ m
-  at-3 k h = stamp-at (λ _. m) 1152 n l3 l k (1152 + k) (pos 0) last (omega (arith, long3)) h (omega arith)
+  at-3 : (k : ℕ) → k < n → getD l (192 + k) (pos 0) ≡ m
+  at-3 k h = stamp-at (λ _. m) 192 n l3 l k (192 + k) (pos 0) last (omega (arith, long3)) h (omega arith)
 
-pub tap-rows : (c0 c1 c2 : ℤ) (n : ℕ) (tr l : List ℤ) → l ≡ tapRows c0 c1 c2 (middle c0 c1 c2) n tr → n ≤ 384 → 1536 ≤ length tr → TapRows c0 c1 c2 n l
+pub tap-rows : (c0 c1 c2 : ℤ) (n : ℕ) (tr l : List ℤ) → l ≡ tapRows c0 c1 c2 (middle c0 c1 c2) n tr → n ≤ 64 → 256 ≤ length tr → TapRows c0 c1 c2 n l
 tap-rows c0 c1 c2 n tr l e p long = record {
   first = at-0 c0 c1 c2 (middle c0 c1 c2) n tr l e p long;
   second = at-1 c0 c1 c2 (middle c0 c1 c2) n tr l e p long;
@@ -97,7 +97,7 @@ tap-rows c0 c1 c2 n tr l e p long = record {
 
 -- the same, of four taps in a list
 pub tap-rows-of : {c0 c1 c2 : ℤ} {c : List ℤ} (n : ℕ) (tr l : List ℤ) → c ≡ c0 ∷ c1 ∷ c2 ∷ middle c0 c1 c2 ∷ [] →
-    l ≡ tapRows (getD c 0 (pos 0)) (getD c 1 (pos 0)) (getD c 2 (pos 0)) (getD c 3 (pos 0)) n tr → n ≤ 384 → length tr ≡ 1536 → TapRows c0 c1 c2 n l
+    l ≡ tapRows (getD c 0 (pos 0)) (getD c 1 (pos 0)) (getD c 2 (pos 0)) (getD c 3 (pos 0)) n tr → n ≤ 64 → length tr ≡ 256 → TapRows c0 c1 c2 n l
 tap-rows-of {c0} {c1} {c2} n tr l e f p long =
     tap-rows c0 c1 c2 n tr l (f ∙ ap (λ (s : List ℤ). tapRows (getD s 0 (pos 0)) (getD s 1 (pos 0)) (getD s 2 (pos 0)) (getD s 3 (pos 0)) n tr) e) p (omega (arith, long))
 

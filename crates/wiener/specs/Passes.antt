@@ -5,7 +5,7 @@ use mathlib.Core.List.{List, [], _∷_}
 use Prim.Native.Nat.{ℕ, _+_, _*_, _^_, _<_, _≤_}
 use lib.IntN.{ℤ, pos, natAbs, _+ℤ_, _-ℤ_, _*ℤ_}
 use lib.ListN.{getD}
-use lib.Signed.{mag, shrZ}
+use lib.Signed.{_≤ℤ_, mag, shrZ}
 use Rattle.laws.specs.Runs.{stamp}
 use Rattle.standard.specs.declared.Depth.{Depth}
 use Rattle.standard.specs.declared.Taps.{Taps}
@@ -15,23 +15,23 @@ use Rattle.standard.specs.Wiener.{Grid, tap, middle, across}
 use Rattle.wiener.specs.declared.Rounding.{Rounding}
 
 -- ---- tap rows
--- n times each of four taps, 384 places apart
+-- n times each of four taps, 64 places apart
 unfoldable pub tapRows : ℤ → ℤ → ℤ → ℤ → ℕ → List ℤ → List ℤ
-tapRows c0 c1 c2 m n tr = stamp (λ _. m) 1152 n (stamp (λ _. c2) 768 n (stamp (λ _. c1) 384 n (stamp (λ _. c0) 0 n tr)))
+tapRows c0 c1 c2 m n tr = stamp (λ _. m) 192 n (stamp (λ _. c2) 128 n (stamp (λ _. c1) 64 n (stamp (λ _. c0) 0 n tr)))
 
 -- what a reader of the first n places finds there
 pub record TapRows (c0 c1 c2 : ℤ) (n : ℕ) (tr : List ℤ) : Type 0 where
   pub first : (k : ℕ) → k < n → getD tr k (pos 0) ≡ c0
-  pub second : (k : ℕ) → k < n → getD tr (384 + k) (pos 0) ≡ c1
-  pub third : (k : ℕ) → k < n → getD tr (768 + k) (pos 0) ≡ c2
-  pub fourth : (k : ℕ) → k < n → getD tr (1152 + k) (pos 0) ≡ middle c0 c1 c2
+  pub second : (k : ℕ) → k < n → getD tr (64 + k) (pos 0) ≡ c1
+  pub third : (k : ℕ) → k < n → getD tr (128 + k) (pos 0) ≡ c2
+  pub fourth : (k : ℕ) → k < n → getD tr (192 + k) (pos 0) ≡ middle c0 c1 c2
 
 -- the sizes of the four taps at place k
 pub record Narrow (k : ℕ) (tr : List ℤ) : Type 0 where
   pub first : natAbs (getD tr k (pos 0)) ≤ 10
-  pub second : natAbs (getD tr (384 + k) (pos 0)) ≤ 23
-  pub third : natAbs (getD tr (768 + k) (pos 0)) ≤ 46
-  pub fourth : natAbs (getD tr (1152 + k) (pos 0)) ≤ 286
+  pub second : natAbs (getD tr (64 + k) (pos 0)) ≤ 23
+  pub third : natAbs (getD tr (128 + k) (pos 0)) ≤ 46
+  pub fourth : natAbs (getD tr (192 + k) (pos 0)) ≤ 286
 
 pub record NarrowRows (n : ℕ) (tr : List ℤ) : Type 0 where
   pub here : (k : ℕ) → k < n → Narrow k tr
@@ -39,7 +39,7 @@ pub record NarrowRows (n : ℕ) (tr : List ℤ) : Type 0 where
 -- the seven taps at place k
 abbrev pub rowTap : List ℤ → ℕ → ℕ → ℤ
 rowTap tr k j =
-    getD (getD tr k (pos 0) ∷ getD tr (384 + k) (pos 0) ∷ getD tr (768 + k) (pos 0) ∷ getD tr (1152 + k) (pos 0) ∷ getD tr (768 + k) (pos 0) ∷ getD tr (384 + k) (pos 0) ∷ getD tr k (pos 0) ∷ []) j (pos 0)
+    getD (getD tr k (pos 0) ∷ getD tr (64 + k) (pos 0) ∷ getD tr (128 + k) (pos 0) ∷ getD tr (192 + k) (pos 0) ∷ getD tr (128 + k) (pos 0) ∷ getD tr (64 + k) (pos 0) ∷ getD tr k (pos 0) ∷ []) j (pos 0)
 
 -- ---- seven samples that are st apart
 -- −16384 .. 16383 at lo ≤ k < hi: the sum of two fits 16 bits
@@ -59,8 +59,9 @@ settled a z = clip3 (a .low) (a .high) (shrZ (z +ℤ a .add) (2 ^ a .shift))
 pub record Mild (a : Rounding) : Type 0 where
   pub add-size : natAbs (a .add) ≤ 16777216
   pub shift-size : a .shift ≤ 20
-  pub low-size : natAbs (a .low) ≤ 32768
-  pub high-size : natAbs (a .high) ≤ 32768
+  pub low-size : mag (a .low) < 32768
+  pub high-size : mag (a .high) < 32768
+  pub order : a .low ≤ℤ a .high
 
 -- ---- the middle values
 -- what is added to a middle value where it is kept

@@ -1,6 +1,5 @@
 // What a pass does to its sum: the bias of the middle values and the rounding in one addition, the shift, the clip.
 use crate::Rounding;
-use numbers::clip3;
 use numbers::largest;
 use numbers::limit;
 use numbers::offset;
@@ -8,8 +7,10 @@ use numbers::r0;
 use numbers::r1;
 use standard::Depth;
 ghost use mathlib.Core.Path.{_≡_};
+ghost use mathlib.Core.Bool.{cond};
 ghost use Prim.Native.Nat.{_-_, _^_, _≤_};
 ghost use lib.IntN.{pos, negsuc, natAbs, _+ℤ_, _-ℤ_, _*ℤ_};
+ghost use lib.Signed.{ltZ};
 ghost use Rattle.standard.specs.Depths as depths;
 ghost use Rattle.wiener.specs.Passes.{settled, Mild, bias};
 
@@ -50,7 +51,25 @@ pub fn down_rounding(d: Depth) -> Rounding
     }
 }
 
-// Rounding and clip of a sum.
+fn at_least(low: i32, x: i32) -> i32
+    ensures { λ r. ⌜ r ≡ cond (ltZ x low) low x ⌝ }
+{
+    if x < low {
+        return low;
+    }
+    x
+}
+
+fn at_most(high: i32, x: i32) -> i32
+    ensures { λ r. ⌜ r ≡ cond (ltZ high x) high x ⌝ }
+{
+    if high < x {
+        return high;
+    }
+    x
+}
+
+// Rounding and clip of a sum. Either end of the clip is one instruction by itself, where Clip3 would be three.
 pub fn settle(z: i32, a: Rounding) -> i32
     requires { ⌜ natAbs z ≤ 16777216 ⌝ }
     requires { ⌜ Mild a ⌝ }
@@ -60,5 +79,5 @@ pub fn settle(z: i32, a: Rounding) -> i32
     let shift = a.shift;
     let low = a.low;
     let high = a.high;
-    clip3(low, high, (z + add) >> shift)
+    at_most(high, at_least(low, (z + add) >> shift))
 }

@@ -1,6 +1,6 @@
 // Both passes over a window: its h + 6 rows across into scratch, then h rows down into the result.
-use crate::row::across_row;
-use crate::row::down_row;
+use crate::across::across_row;
+use crate::down::down_row;
 use crate::taps::horizontal_rows;
 use crate::taps::vertical_rows;
 use standard::Depth;
@@ -18,17 +18,17 @@ ghost use Rattle.wiener.specs.Passes.{TapRows, Halves, acrossAt, downAt,
 
 // The horizontal pass over the h + 6 rows of a window, `stride` apart, to the first h + 6 rows of w in s.
 pub fn across_window(
-    s: &mut [i32],
+    s: &mut [i16],
     win: &[i32],
     at: usize,
     stride: usize,
     w: usize,
     h: usize,
-    tr: &[i16; 1536],
+    tr: &[i16; 256],
     t: Taps,
     d: Depth,
 )
-    requires { ⌜ ((h + 6) * w ≤ length (now s)) × (at + (h + 5) * stride + (w + 6) ≤ length (now win)) × (w ≤ 384) × (h ≤ 64) ⌝ }
+    requires { ⌜ ((h + 6) * w ≤ length (now s)) × (at + (h + 5) * stride + (w + 6) ≤ length (now win)) × (w ≤ 64) × (h ≤ 64) ⌝ }
     requires { ⌜ LegalTaps t × TapRows (t .h0) (t .h1) (t .h2) w (now tr) ⌝ }
     requires { ⌜ Samples (largest d) at (at + (h + 5) * stride + (w + 6)) (now win) ⌝ }
     ensures { λ _. ⌜ now (s .exit) ≡ rows (λ i x. acrossAt d t (now (win .entry)) (at + i * stride + x)) 0 w w (h + 6) (now (s .entry)) ⌝ }
@@ -46,14 +46,14 @@ pub fn down_window(
     out: &mut [i32],
     to: usize,
     stride: usize,
-    s: &[i32],
+    s: &[i16],
     w: usize,
     h: usize,
-    tr: &[i16; 1536],
+    tr: &[i16; 256],
     t: Taps,
     d: Depth,
 )
-    requires { ⌜ (to + h * stride + w ≤ length (now out) + stride) × ((h + 6) * w ≤ length (now s)) × (w ≤ 384) × (h ≤ 64) ⌝ }
+    requires { ⌜ (to + h * stride + w ≤ length (now out) + stride) × ((h + 6) * w ≤ length (now s)) × (w ≤ 64) × (h ≤ 64) ⌝ }
     requires { ⌜ LegalTaps t × TapRows (t .v0) (t .v1) (t .v2) w (now tr) ⌝ }
     requires { ⌜ Halves 0 ((h + 6) * w) (now s) ⌝ }
     ensures { λ _. ⌜ now (out .exit) ≡ rows (λ i x. downAt d t (now (s .entry)) (i * w + x) w) to stride w h (now (out .entry)) ⌝ }
@@ -75,16 +75,16 @@ pub fn wiener_window(
     stride: usize,
     w: usize,
     h: usize,
-    s: &mut [i32],
+    s: &mut [i16],
     t: Taps,
     d: Depth,
 )
-    requires { ⌜ (to + h * «out_stride» + w ≤ length (now out) + «out_stride») × (at + (h + 5) * stride + (w + 6) ≤ length (now win)) × ((h + 6) * w ≤ length (now s)) × (w ≤ 384) × (h ≤ 64) ⌝ }
+    requires { ⌜ (to + h * «out_stride» + w ≤ length (now out) + «out_stride») × (at + (h + 5) * stride + (w + 6) ≤ length (now win)) × ((h + 6) * w ≤ length (now s)) × (w ≤ 64) × (h ≤ 64) ⌝ }
     requires { ⌜ LegalTaps t ⌝ }
     requires { ⌜ Samples (largest d) at (at + (h + 5) * stride + (w + 6)) (now win) ⌝ }
     ensures { λ _. ⌜ now (out .exit) ≡ rows (λ i j. pos (wiener d t (seen (now (win .entry)) at stride i j))) to «out_stride» w h (now (out .entry)) ⌝ }
 {
-    let mut tr = [0i16; 1536];
+    let mut tr = [0i16; 256];
     horizontal_rows(&mut tr, t, w);
     across_window(s, win, at, stride, w, h, &tr, t, d);
     vertical_rows(&mut tr, t, w);

@@ -1,11 +1,10 @@
 -- Each arm of the match is the arm of the definition for that kind.
 use mathlib.Core.Path.{sym, _∙_, ap, subst}
-use native.Mathlib.Omega.{arith}
 use Rattle.standard.specs.declared.Kind.{Kind}
 use Rattle.units.specs.Legal.{LegalKind}
 use Rattle.laws.specs.Paint.{paint}
 use Rattle.rectangle.specs.View.{shownAt}
-use Rattle.rectangle.proofs.SoftLaws.{sharp-room, sharp-shown, soft-shown}
+use Rattle.rectangle.proofs.SoftLaws.{sharp-shown, soft-shown}
 use borrow.Author.Needs.{needs}
 use Rattle.rectangle.proofs.restore_rect.Statement.{statement}
 use Rattle.rectangle.proofs.restore_rect.Tie as tie
@@ -20,8 +19,8 @@ enum-known-kind : tie.Need-enum-known-kind
 enum-known-kind c = search needs
 
 wiener-rect-requires : tie.Need-wiener-rect-requires
-wiener-rect-requires c κs = let s = c .before .before .before .before .before in let p = s .pre .0 in let k = c .before .before .before .kind .given in
-    ((p .0, omega (arith, p .1, sharp-room (s .args .rw) (s .args .rh)), p .2, p .3, p .4, p .5, p .6, p .7), (subst LegalKind (k .1) (s .pre .1 .0 .0), s .pre .1 .1))
+wiener-rect-requires c κs = let s = c .before .before .before .before in let p = s .pre .0 in let k = c .before .before .kind .given in
+    ((p .0, p .4, p .5, p .6, p .7), (subst LegalKind (k .1) (s .pre .1 .0 .0), s .pre .1 .1))
 
 enum-known-kind-2 : tie.Need-enum-known-kind-2
 enum-known-kind-2 c = search needs
@@ -40,18 +39,15 @@ returns c = let s = c .before .before .before .before .before in
 same-length-2 : tie.Need-same-length-2
 same-length-2 c = search needs
 
+returns-2 : tie.Need-returns-2
+returns-2 c = let k = c .before .before .before .before in let s = k .before .before in
+    c .before .wiener-rect .ensures ∙ sharp-shown (s .args .d) _ (k .kind .given .0 .0) _ _ _ _ _ _ _ _ _ _ (k .kind .given .1)
+
 same-length-3 : tie.Need-same-length-3
 same-length-3 c = search needs
 
-returns-2 : tie.Need-returns-2
-returns-2 c = let s = c .before .before .before .before .before .before .before .before in
-    c .before .before .wiener-rect .ensures ∙ sharp-shown (s .args .d) _ (c .before .before .before .before .before .before .kind .given .0 .0) _ _ _ _ _ _ _ _ _ _ (c .before .before .before .before .before .before .kind .given .1)
-
 same-length-4 : tie.Need-same-length-4
 same-length-4 c = search needs
-
-same-length-5 : tie.Need-same-length-5
-same-length-5 c = search needs
 
 returns-3 : tie.Need-returns-3
 returns-3 c = let s = c .before .before .before .before .before .before .before .before in
@@ -70,8 +66,7 @@ restore-rect-spec =
     same-length
     returns
     same-length-2
-    same-length-3
     returns-2
+    same-length-3
     same-length-4
-    same-length-5
     returns-3)

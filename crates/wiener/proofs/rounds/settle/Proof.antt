@@ -1,36 +1,60 @@
--- The sum fits by its sizes; what is shifted and clipped is the definition's number.
+-- The sum fits by its sizes; the two ends of the clip, one after the other, are the definition's clip.
 use mathlib.Core.Path.{_∙_}
+use mathlib.Core.Bool.{cond}
 use native.Mathlib.Omega.{arith}
+use Prim.Native.Nat.{_≤_, _<_}
+use lib.IntN.{ℤ, natAbs}
+use lib.Signed.{mag, ltZ}
 use mir.Syntax.{w32}
-use Rattle.laws.specs.Congruence.{ap3}
+use Rattle.laws.specs.Congruence.{ap2}
 use Rattle.laws.specs.SignedCode.{Expression, Var, _⊕_, ShrBy, safe, is-exact}
 use Rattle.laws.specs.ReadBack.{returned}
-use Rattle.standard.specs.Arithmetic.{clip3}
+use Rattle.laws.specs.Sizes.{abs-mag}
 use Rattle.wiener.specs.Passes.{settled}
+use Rattle.wiener.proofs.PassLaws.{clip-ends}
 use borrow.Author.Needs.{needs}
 use Rattle.wiener.proofs.rounds.settle.Statement.{statement}
 use Rattle.wiener.proofs.rounds.settle.Tie as tie
 
--- z + add
+size : (z : ℤ) → mag z < 32768 → natAbs z ≤ 32768
+size z h = omega (arith, abs-mag z)
+
+-- z + add, shifted; and the two ends
 abbrev raised : tie.Start → Expression
 raised s = Var (s .args .z) 16777216 (s .pre .0) ⊕ Var (s .args .a .add) 16777216 (s .pre .1 .add-size)
 
-add-clip3 : tie.Need-add-clip3
-add-clip3 c = safe w32 (raised (c .before .before .before)) tt
+abbrev shifted : tie.Start → Expression
+shifted s = ShrBy (raised s) (s .args .a .shift)
 
-cast-clip3 : tie.Need-cast-clip3
-cast-clip3 c = omega (arith, c .before .before .before .pre .1 .shift-size)
+abbrev low : tie.Start → Expression
+low s = Var (s .args .a .low) 32768 (size (s .args .a .low) (s .pre .1 .low-size))
 
-shr-clip3 : tie.Need-shr-clip3
-shr-clip3 c = omega (arith, c .before .before .before .pre .1 .shift-size)
+abbrev high : tie.Start → Expression
+high s = Var (s .args .a .high) 32768 (size (s .args .a .high) (s .pre .1 .high-size))
 
-clip3-requires : tie.Need-clip3-requires
-clip3-requires c κs = search needs
+add-at-least : tie.Need-add-at-least
+add-at-least c = safe w32 (raised (c .before .before .before)) tt
+
+cast-at-least : tie.Need-cast-at-least
+cast-at-least c = omega (arith, c .before .before .before .pre .1 .shift-size)
+
+shr-at-least : tie.Need-shr-at-least
+shr-at-least c = omega (arith, c .before .before .before .pre .1 .shift-size)
+
+at-least-requires : tie.Need-at-least-requires
+at-least-requires c κs = search needs
+
+at-most-requires : tie.Need-at-most-requires
+at-most-requires c κs = search needs
 
 returns : tie.Need-returns
 unfolding settled
-returns c = let s = c .before .before .before .before in
-    returned w32 (c .clip3 .ok) (c .clip3 .ensures ∙ ap3 clip3 (is-exact w32 (Var (s .args .a .low) 32768 (s .pre .1 .low-size)) tt) (is-exact w32 (Var (s .args .a .high) 32768 (s .pre .1 .high-size)) tt) (is-exact w32 (ShrBy (raised s) (s .args .a .shift)) tt))
+returns c = let l = c .before in let s = l .before .before .before .before in
+    returned w32 (c .at-most .ok) (c .at-most .ensures
+    ∙ ap2 (λ h m. cond (ltZ h m) h m) (is-exact w32 (high s) tt) (returned w32 (l .at-least .ok) (l .at-least .ensures ∙ ap2 (λ n v. cond (ltZ v n) n v) (is-exact w32 (low s) tt) (is-exact w32 (shifted s) tt)))
+    ∙ clip-ends _ _ _ (s .pre .1 .order))
 
 pub settle-spec : {M : Type 1} → statement M
-settle-spec = tie.close (tie.spec add-clip3 cast-clip3 shr-clip3 clip3-requires returns)
+settle-spec =
+    tie.close
+    (tie.spec add-at-least cast-at-least shr-at-least at-least-requires at-most-requires returns)

@@ -26,9 +26,9 @@ returns : tie.Need-returns
 unfolding tapRows
 returns c = let s = c .before .before .before .before .before .before .before .before .before .before .before .before in let a : ℕ → ℤ = λ k. getD (s .args .c .now) k (pos 0) in let w = s .args .w in (
   c .repeat-narrow4 .ensures
-      ∙ ap (stamp (λ _. a 3) 1152 w) (c .before .before .before .repeat-narrow3 .ensures
-      ∙ ap (stamp (λ _. a 2) 768 w) (c .before .before .before .before .before .before .repeat-narrow2 .ensures
-      ∙ ap (stamp (λ _. a 1) 384 w) (c .before .before .before .before .before .before .before .before .before .repeat-narrow .ensures))),
+      ∙ ap (stamp (λ _. a 3) 192 w) (c .before .before .before .repeat-narrow3 .ensures
+      ∙ ap (stamp (λ _. a 2) 128 w) (c .before .before .before .before .before .before .repeat-narrow2 .ensures
+      ∙ ap (stamp (λ _. a 1) 64 w) (c .before .before .before .before .before .before .before .before .before .repeat-narrow .ensures))),
   c .before .before .before .before .before .before .before .before .before .before .before .repeat-narrow-arg .given .0 .1,
 )
 

@@ -7,8 +7,8 @@ use Rattle.wiener.proofs.TapLaws.{small-horizontal, narrow-rows}
 use Rattle.wiener.proofs.SumLaws.{halves-part}
 use Rattle.wiener.proofs.PassLaws.{AcrossNumbers, across-mild, across-value, samples-halves}
 use borrow.Author.Needs.{needs}
-use Rattle.wiener.proofs.row.across_row.Statement.{statement}
-use Rattle.wiener.proofs.row.across_row.Tie as tie
+use Rattle.wiener.proofs.across.across_row.Statement.{statement}
+use Rattle.wiener.proofs.across.across_row.Tie as tie
 
 numbers : (c : tie.After-across-rounding) → AcrossNumbers (c .before .args .d) (c .across-rounding .result)
 numbers c = record { add-is = c .across-rounding .ensures .0 .0; shift-is = c .across-rounding .ensures .0 .1; low-is = c .across-rounding .ensures .1 .0; high-is = c .across-rounding .ensures .1 .1 }
@@ -16,8 +16,8 @@ numbers c = record { add-is = c .across-rounding .ensures .0 .0; shift-is = c .a
 across-rounding-requires : tie.Need-across-rounding-requires
 across-rounding-requires c κs = search needs
 
-pass-row-requires : tie.Need-pass-row-requires
-pass-row-requires c κs = let s = c .before .before in
+across-values-requires : tie.Need-across-values-requires
+across-values-requires c κs = let s = c .before .before in
     ((omega arith, omega arith, omega arith), (halves-part _ _ (samples-halves (s .args .d) (s .pre .1 .1)) (omega arith) (omega arith), (narrow-rows (small-horizontal (s .pre .1 .0 .0)) (s .pre .1 .0 .1), across-mild (numbers (c .before)))))
 
 same-length : tie.Need-same-length
@@ -25,8 +25,8 @@ same-length c = search needs
 
 returns : tie.Need-returns
 returns c = let s = c .before .before .before .before in
-    c .before .pass-row .ensures ∙ stamp-same _ _ _ _ _ (λ x h. across-value (s .args .t) (numbers (c .before .before .before)) (s .pre .1 .0 .1) (s .pre .1 .1) x (s .args .from + x) h (omega arith) (omega arith))
+    c .before .across-values .ensures ∙ stamp-same _ _ _ _ _ (λ x h. across-value (s .args .t) (numbers (c .before .before .before)) (s .pre .1 .0 .1) (s .pre .1 .1) x (s .args .from + x) h (omega arith) (omega arith))
 
 pub across-row-spec : {M : Type 1} → statement M
 across-row-spec =
-    tie.close (tie.spec across-rounding-requires pass-row-requires same-length returns)
+    tie.close (tie.spec across-rounding-requires across-values-requires same-length returns)
