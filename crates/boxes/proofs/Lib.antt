@@ -1,4 +1,5 @@
 pub mod Words
+pub mod Pairs
 pub mod SumLaws
 pub mod ScaleLaws
 pub mod TableLaws

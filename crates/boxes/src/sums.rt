@@ -78,28 +78,33 @@ pub fn sum5_row(s: &mut [i32], to: usize, from: usize, st: usize, n: usize)
     }
 }
 
-pub fn squares3_row(s: &mut [i32], to: usize, from: usize, st: usize, n: usize)
-    requires { ⌜ (from + 2 * st + n ≤ to) × (to + n ≤ length (now s)) ⌝ }
+// Rows of n sums at `to` and of n sums of squares at `sq`, after it, in one loop: both read the same samples.
+pub fn down3_row(s: &mut [i32], to: usize, sq: usize, from: usize, st: usize, n: usize)
+    requires { ⌜ (from + 2 * st + n ≤ to) × (to + n ≤ sq) × (sq + n ≤ length (now s)) ⌝ }
     requires { ⌜ Samples 4095 from (from + 2 * st + n) (now s) ⌝ }
-    ensures { λ _. ⌜ now (s .exit) ≡ stamp (λ j. pos (reads.squares 3 (now (s .entry)) (from + j) st)) to n (now (s .entry)) ⌝ }
+    ensures { λ _. ⌜ now (s .exit) ≡ stamp (λ j. pos (reads.squares 3 (now (s .entry)) (from + j) st)) sq n (stamp (λ j. pos (reads.sums 3 (now (s .entry)) (from + j) st)) to n (now (s .entry))) ⌝ }
 {
     let mut j = 0;
     while j < n {
-        let v = signed(squares3_at(s, from + j, st));
+        let v = signed(sum3_at(s, from + j, st));
+        let q = signed(squares3_at(s, from + j, st));
         s[to + j] = v;
+        s[sq + j] = q;
         j += 1;
     }
 }
 
-pub fn squares5_row(s: &mut [i32], to: usize, from: usize, st: usize, n: usize)
-    requires { ⌜ (from + 4 * st + n ≤ to) × (to + n ≤ length (now s)) ⌝ }
+pub fn down5_row(s: &mut [i32], to: usize, sq: usize, from: usize, st: usize, n: usize)
+    requires { ⌜ (from + 4 * st + n ≤ to) × (to + n ≤ sq) × (sq + n ≤ length (now s)) ⌝ }
     requires { ⌜ Samples 4095 from (from + 4 * st + n) (now s) ⌝ }
-    ensures { λ _. ⌜ now (s .exit) ≡ stamp (λ j. pos (reads.squares 5 (now (s .entry)) (from + j) st)) to n (now (s .entry)) ⌝ }
+    ensures { λ _. ⌜ now (s .exit) ≡ stamp (λ j. pos (reads.squares 5 (now (s .entry)) (from + j) st)) sq n (stamp (λ j. pos (reads.sums 5 (now (s .entry)) (from + j) st)) to n (now (s .entry))) ⌝ }
 {
     let mut j = 0;
     while j < n {
-        let v = signed(squares5_at(s, from + j, st));
+        let v = signed(sum5_at(s, from + j, st));
+        let q = signed(squares5_at(s, from + j, st));
         s[to + j] = v;
+        s[sq + j] = q;
         j += 1;
     }
 }

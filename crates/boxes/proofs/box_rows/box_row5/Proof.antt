@@ -1,6 +1,6 @@
 -- Each step reads what the steps before it left: `Pipe` says what that is.
 use native.Mathlib.Omega.{arith}
-use Rattle.boxes.proofs.Pipe.{first-reads, second-reads, third-reads, fourth-squares, fourth-sums, fifth-reads, sixth-shares, sixth-sums, boxed, long1, long2, long3, long4, long5}
+use Rattle.boxes.proofs.Pipe.{first-reads, second-reads, third-squares, third-sums, fourth-reads, fifth-shares, fifth-sums, boxed, long1, long2, long3, long4}
 use borrow.Author.Needs.{needs}
 use Rattle.boxes.proofs.box_rows.box_row5.Statement.{statement}
 use Rattle.boxes.proofs.box_rows.box_row5.Tie as tie
@@ -20,35 +20,39 @@ add-zb c = search needs
 add-zs : tie.Need-add-zs
 add-zs c = search needs
 
-add-sum5-row : tie.Need-add-sum5-row
-add-sum5-row c = search needs
+add-down5-row : tie.Need-add-down5-row
+add-down5-row c = search needs
+
+down5-row-requires : tie.Need-down5-row-requires
+down5-row-requires c κs =
+    let P = c .before .pre .0 in
+    ((omega (arith, P .before, P .lines, P .order, P .room), omega (arith, P .before, P .lines, P .order, P .room), omega (arith, P .before, P .lines, P .order, P .room)), first-reads 2 _ _ _ _ _ _ _ P)
 
 sum5-row-requires : tie.Need-sum5-row-requires
-sum5-row-requires c κs = ((omega (arith, c .before .pre .0 .before, c .before .pre .0 .lines, c .before .pre .0 .order, c .before .pre .0 .room), omega (arith, c .before .pre .0 .before, c .before .pre .0 .lines, c .before .pre .0 .order, c .before .pre .0 .room)), first-reads 2 (c .before .args .z) (c .before .args .from) (c .before .args .line) (c .before .args .a) (c .before .args .b) (c .before .args .w) _ (c .before .pre .0))
-
-add-squares5-row : tie.Need-add-squares5-row
-add-squares5-row c = search needs
-
-squares5-row-requires : tie.Need-squares5-row-requires
-squares5-row-requires c κs = ((omega (arith, c .before .before .before .before .pre .0 .before, c .before .before .before .before .pre .0 .lines, c .before .before .before .before .pre .0 .order, c .before .before .before .before .pre .0 .room), omega (arith, c .before .before .before .before .pre .0 .before, c .before .before .before .before .pre .0 .lines, c .before .before .before .before .pre .0 .order, c .before .before .before .before .pre .0 .room, long1 2 (c .before .before .before .before .args .z) (c .before .before .before .before .args .from) (c .before .before .before .before .args .line) (c .before .before .before .before .args .a) (c .before .before .before .before .args .b) (c .before .before .before .before .args .w) _ (c .before .before .before .before .pre .0) _ (c .before .before .sum5-row .ensures))), second-reads 2 (c .before .before .before .before .args .z) (c .before .before .before .before .args .from) (c .before .before .before .before .args .line) (c .before .before .before .before .args .a) (c .before .before .before .before .args .b) (c .before .before .before .before .args .w) _ (c .before .before .before .before .pre .0) _ (c .before .before .sum5-row .ensures))
-
-sum5-row-requires-2 : tie.Need-sum5-row-requires-2
-sum5-row-requires-2 c κs = ((omega (arith, c .before .before .before .before .before .before .before .pre .0 .before, c .before .before .before .before .before .before .before .pre .0 .lines, c .before .before .before .before .before .before .before .pre .0 .order, c .before .before .before .before .before .before .before .pre .0 .room), omega (arith, c .before .before .before .before .before .before .before .pre .0 .before, c .before .before .before .before .before .before .before .pre .0 .lines, c .before .before .before .before .before .before .before .pre .0 .order, c .before .before .before .before .before .before .before .pre .0 .room, long2 2 (c .before .before .before .before .before .before .before .args .z) (c .before .before .before .before .before .before .before .args .from) (c .before .before .before .before .before .before .before .args .line) (c .before .before .before .before .before .before .before .args .a) (c .before .before .before .before .before .before .before .args .b) (c .before .before .before .before .before .before .before .args .w) _ (c .before .before .before .before .before .before .before .pre .0) _ (c .before .before .before .before .before .sum5-row .ensures) _ (c .before .before .squares5-row .ensures))), third-reads 2 (c .before .before .before .before .before .before .before .args .z) (c .before .before .before .before .before .before .before .args .from) (c .before .before .before .before .before .before .before .args .line) (c .before .before .before .before .before .before .before .args .a) (c .before .before .before .before .before .before .before .args .b) (c .before .before .before .before .before .before .before .args .w) _ (c .before .before .before .before .before .before .before .pre .0) _ (c .before .before .before .before .before .sum5-row .ensures) _ (c .before .before .squares5-row .ensures))
+sum5-row-requires c κs =
+    let P = c .before .before .before .before .pre .0 in
+    ((omega (arith, P .before, P .lines, P .order, P .room), omega (arith, P .before, P .lines, P .order, P .room, long1 2 _ _ _ _ _ _ _ P _ (c .before .before .down5-row .ensures))), second-reads 2 _ _ _ _ _ _ _ P _ (c .before .before .down5-row .ensures))
 
 z5-row-requires : tie.Need-z5-row-requires
-z5-row-requires c κs = ((omega (arith, c .before .before .before .before .before .before .before .before .before .before .pre .0 .before, c .before .before .before .before .before .before .before .before .before .before .pre .0 .lines, c .before .before .before .before .before .before .before .before .before .before .pre .0 .order, c .before .before .before .before .before .before .before .before .before .before .pre .0 .room), omega (arith, c .before .before .before .before .before .before .before .before .before .before .pre .0 .before, c .before .before .before .before .before .before .before .before .before .before .pre .0 .lines, c .before .before .before .before .before .before .before .before .before .before .pre .0 .order, c .before .before .before .before .before .before .before .before .before .before .pre .0 .room), omega (arith, c .before .before .before .before .before .before .before .before .before .before .pre .0 .before, c .before .before .before .before .before .before .before .before .before .before .pre .0 .lines, c .before .before .before .before .before .before .before .before .before .before .pre .0 .order, c .before .before .before .before .before .before .before .before .before .before .pre .0 .room, long3 2 (c .before .before .before .before .before .before .before .before .before .before .args .z) (c .before .before .before .before .before .before .before .before .before .before .args .from) (c .before .before .before .before .before .before .before .before .before .before .args .line) (c .before .before .before .before .before .before .before .before .before .before .args .a) (c .before .before .before .before .before .before .before .before .before .before .args .b) (c .before .before .before .before .before .before .before .before .before .before .args .w) _ (c .before .before .before .before .before .before .before .before .before .before .pre .0) _ (c .before .before .before .before .before .before .before .before .sum5-row .ensures) _ (c .before .before .before .before .before .squares5-row .ensures) _ (c .before .before .sum5-row2 .ensures)), c .before .before .before .before .before .before .before .before .before .before .pre .0 .scaled .good), (fourth-squares 2 (c .before .before .before .before .before .before .before .before .before .before .args .z) (c .before .before .before .before .before .before .before .before .before .before .args .from) (c .before .before .before .before .before .before .before .before .before .before .args .line) (c .before .before .before .before .before .before .before .before .before .before .args .a) (c .before .before .before .before .before .before .before .before .before .before .args .b) (c .before .before .before .before .before .before .before .before .before .before .args .w) _ (c .before .before .before .before .before .before .before .before .before .before .pre .0) _ (c .before .before .before .before .before .before .before .before .sum5-row .ensures) _ (c .before .before .before .before .before .squares5-row .ensures) _ (c .before .before .sum5-row2 .ensures), fourth-sums 2 (c .before .before .before .before .before .before .before .before .before .before .args .z) (c .before .before .before .before .before .before .before .before .before .before .args .from) (c .before .before .before .before .before .before .before .before .before .before .args .line) (c .before .before .before .before .before .before .before .before .before .before .args .a) (c .before .before .before .before .before .before .before .before .before .before .args .b) (c .before .before .before .before .before .before .before .before .before .before .args .w) _ (c .before .before .before .before .before .before .before .before .before .before .pre .0) _ (c .before .before .before .before .before .before .before .before .sum5-row .ensures) _ (c .before .before .before .before .before .squares5-row .ensures) _ (c .before .before .sum5-row2 .ensures)))
+z5-row-requires c κs =
+    let P = c .before .before .before .before .before .before .before .pre .0 in
+    ((omega (arith, P .before, P .lines, P .order, P .room), omega (arith, P .before, P .lines, P .order, P .room), omega (arith, P .before, P .lines, P .order, P .room, long2 2 _ _ _ _ _ _ _ P _ (c .before .before .before .before .before .down5-row .ensures) _ (c .before .before .sum5-row .ensures)), P .scaled .good), (third-squares 2 _ _ _ _ _ _ _ P _ (c .before .before .before .before .before .down5-row .ensures) _ (c .before .before .sum5-row .ensures), third-sums 2 _ _ _ _ _ _ _ P _ (c .before .before .before .before .before .down5-row .ensures) _ (c .before .before .sum5-row .ensures)))
 
 a2-row-requires : tie.Need-a2-row-requires
-a2-row-requires c κs = (omega (arith, c .before .before .before .before .before .before .before .before .before .before .before .before .before .pre .0 .before, c .before .before .before .before .before .before .before .before .before .before .before .before .before .pre .0 .lines, c .before .before .before .before .before .before .before .before .before .before .before .before .before .pre .0 .order, c .before .before .before .before .before .before .before .before .before .before .before .before .before .pre .0 .room), omega (arith, c .before .before .before .before .before .before .before .before .before .before .before .before .before .pre .0 .before, c .before .before .before .before .before .before .before .before .before .before .before .before .before .pre .0 .lines, c .before .before .before .before .before .before .before .before .before .before .before .before .before .pre .0 .order, c .before .before .before .before .before .before .before .before .before .before .before .before .before .pre .0 .room, long4 2 (c .before .before .before .before .before .before .before .before .before .before .before .before .before .args .z) (c .before .before .before .before .before .before .before .before .before .before .before .before .before .args .from) (c .before .before .before .before .before .before .before .before .before .before .before .before .before .args .line) (c .before .before .before .before .before .before .before .before .before .before .before .before .before .args .a) (c .before .before .before .before .before .before .before .before .before .before .before .before .before .args .b) (c .before .before .before .before .before .before .before .before .before .before .before .before .before .args .w) _ (c .before .before .before .before .before .before .before .before .before .before .before .before .before .pre .0) _ (c .before .before .before .before .before .before .before .before .before .before .before .sum5-row .ensures) _ (c .before .before .before .before .before .before .before .before .squares5-row .ensures) _ (c .before .before .before .before .before .sum5-row2 .ensures) _ (c .before .before .z5-row .ensures)), fifth-reads 2 (c .before .before .before .before .before .before .before .before .before .before .before .before .before .args .z) (c .before .before .before .before .before .before .before .before .before .before .before .before .before .args .from) (c .before .before .before .before .before .before .before .before .before .before .before .before .before .args .line) (c .before .before .before .before .before .before .before .before .before .before .before .before .before .args .a) (c .before .before .before .before .before .before .before .before .before .before .before .before .before .args .b) (c .before .before .before .before .before .before .before .before .before .before .before .before .before .args .w) _ (c .before .before .before .before .before .before .before .before .before .before .before .before .before .pre .0) _ (c .before .before .before .before .before .before .before .before .before .before .before .sum5-row .ensures) _ (c .before .before .before .before .before .before .before .before .squares5-row .ensures) _ (c .before .before .before .before .before .sum5-row2 .ensures) _ (c .before .before .z5-row .ensures), c .before .before .before .before .before .before .before .before .before .before .before .before .before .pre .1)
+a2-row-requires c κs =
+    let P = c .before .before .before .before .before .before .before .before .before .before .pre .0 in
+    (omega (arith, P .before, P .lines, P .order, P .room), omega (arith, P .before, P .lines, P .order, P .room, long3 2 _ _ _ _ _ _ _ P _ (c .before .before .before .before .before .before .before .before .down5-row .ensures) _ (c .before .before .before .before .before .sum5-row .ensures) _ (c .before .before .z5-row .ensures)), fourth-reads 2 _ _ _ _ _ _ _ P _ (c .before .before .before .before .before .before .before .before .down5-row .ensures) _ (c .before .before .before .before .before .sum5-row .ensures) _ (c .before .before .z5-row .ensures), c .before .before .before .before .before .before .before .before .before .before .pre .1)
 
 b2-row-requires : tie.Need-b2-row-requires
-b2-row-requires c κs = ((omega (arith, c .before .before .before .before .before .before .before .before .before .before .before .before .before .before .before .before .pre .0 .before, c .before .before .before .before .before .before .before .before .before .before .before .before .before .before .before .before .pre .0 .lines, c .before .before .before .before .before .before .before .before .before .before .before .before .before .before .before .before .pre .0 .order, c .before .before .before .before .before .before .before .before .before .before .before .before .before .before .before .before .pre .0 .room), omega (arith, c .before .before .before .before .before .before .before .before .before .before .before .before .before .before .before .before .pre .0 .before, c .before .before .before .before .before .before .before .before .before .before .before .before .before .before .before .before .pre .0 .lines, c .before .before .before .before .before .before .before .before .before .before .before .before .before .before .before .before .pre .0 .order, c .before .before .before .before .before .before .before .before .before .before .before .before .before .before .before .before .pre .0 .room), omega (arith, c .before .before .before .before .before .before .before .before .before .before .before .before .before .before .before .before .pre .0 .before, c .before .before .before .before .before .before .before .before .before .before .before .before .before .before .before .before .pre .0 .lines, c .before .before .before .before .before .before .before .before .before .before .before .before .before .before .before .before .pre .0 .order, c .before .before .before .before .before .before .before .before .before .before .before .before .before .before .before .before .pre .0 .room, long5 2 (c .before .before .before .before .before .before .before .before .before .before .before .before .before .before .before .before .args .z) (c .before .before .before .before .before .before .before .before .before .before .before .before .before .before .before .before .args .from) (c .before .before .before .before .before .before .before .before .before .before .before .before .before .before .before .before .args .line) (c .before .before .before .before .before .before .before .before .before .before .before .before .before .before .before .before .args .a) (c .before .before .before .before .before .before .before .before .before .before .before .before .before .before .before .before .args .b) (c .before .before .before .before .before .before .before .before .before .before .before .before .before .before .before .before .args .w) _ (c .before .before .before .before .before .before .before .before .before .before .before .before .before .before .before .before .pre .0) _ (c .before .before .before .before .before .before .before .before .before .before .before .before .before .before .sum5-row .ensures) _ (c .before .before .before .before .before .before .before .before .before .before .before .squares5-row .ensures) _ (c .before .before .before .before .before .before .before .before .sum5-row2 .ensures) _ (c .before .before .before .before .before .z5-row .ensures) _ (c .before .before .a2-row .ensures))), (sixth-shares 2 (c .before .before .before .before .before .before .before .before .before .before .before .before .before .before .before .before .args .z) (c .before .before .before .before .before .before .before .before .before .before .before .before .before .before .before .before .args .from) (c .before .before .before .before .before .before .before .before .before .before .before .before .before .before .before .before .args .line) (c .before .before .before .before .before .before .before .before .before .before .before .before .before .before .before .before .args .a) (c .before .before .before .before .before .before .before .before .before .before .before .before .before .before .before .before .args .b) (c .before .before .before .before .before .before .before .before .before .before .before .before .before .before .before .before .args .w) _ (c .before .before .before .before .before .before .before .before .before .before .before .before .before .before .before .before .pre .0) _ (c .before .before .before .before .before .before .before .before .before .before .before .before .before .before .sum5-row .ensures) _ (c .before .before .before .before .before .before .before .before .before .before .before .squares5-row .ensures) _ (c .before .before .before .before .before .before .before .before .sum5-row2 .ensures) _ (c .before .before .before .before .before .z5-row .ensures) _ (c .before .before .a2-row .ensures), sixth-sums 2 (c .before .before .before .before .before .before .before .before .before .before .before .before .before .before .before .before .args .z) (c .before .before .before .before .before .before .before .before .before .before .before .before .before .before .before .before .args .from) (c .before .before .before .before .before .before .before .before .before .before .before .before .before .before .before .before .args .line) (c .before .before .before .before .before .before .before .before .before .before .before .before .before .before .before .before .args .a) (c .before .before .before .before .before .before .before .before .before .before .before .before .before .before .before .before .args .b) (c .before .before .before .before .before .before .before .before .before .before .before .before .before .before .before .before .args .w) _ (c .before .before .before .before .before .before .before .before .before .before .before .before .before .before .before .before .pre .0) _ (c .before .before .before .before .before .before .before .before .before .before .before .before .before .before .sum5-row .ensures) _ (c .before .before .before .before .before .before .before .before .before .before .before .squares5-row .ensures) _ (c .before .before .before .before .before .before .before .before .sum5-row2 .ensures) _ (c .before .before .before .before .before .z5-row .ensures) _ (c .before .before .a2-row .ensures)))
+b2-row-requires c κs =
+    let P = c .before .before .before .before .before .before .before .before .before .before .before .before .before .pre .0 in
+    ((omega (arith, P .before, P .lines, P .order, P .room), omega (arith, P .before, P .lines, P .order, P .room), omega (arith, P .before, P .lines, P .order, P .room, long4 2 _ _ _ _ _ _ _ P _ (c .before .before .before .before .before .before .before .before .before .before .before .down5-row .ensures) _ (c .before .before .before .before .before .before .before .before .sum5-row .ensures) _ (c .before .before .before .before .before .z5-row .ensures) _ (c .before .before .a2-row .ensures))), (fifth-shares 2 _ _ _ _ _ _ _ P _ (c .before .before .before .before .before .before .before .before .before .before .before .down5-row .ensures) _ (c .before .before .before .before .before .before .before .before .sum5-row .ensures) _ (c .before .before .before .before .before .z5-row .ensures) _ (c .before .before .a2-row .ensures), fifth-sums 2 _ _ _ _ _ _ _ P _ (c .before .before .before .before .before .before .before .before .before .before .before .down5-row .ensures) _ (c .before .before .before .before .before .before .before .before .sum5-row .ensures) _ (c .before .before .before .before .before .z5-row .ensures) _ (c .before .before .a2-row .ensures)))
 
 same-length : tie.Need-same-length
-same-length c = boxed 2 (c .before .before .before .before .before .before .before .before .before .before .before .before .before .before .before .before .before .before .args .z) (c .before .before .before .before .before .before .before .before .before .before .before .before .before .before .before .before .before .before .args .from) (c .before .before .before .before .before .before .before .before .before .before .before .before .before .before .before .before .before .before .args .line) (c .before .before .before .before .before .before .before .before .before .before .before .before .before .before .before .before .before .before .args .a) (c .before .before .before .before .before .before .before .before .before .before .before .before .before .before .before .before .before .before .args .b) (c .before .before .before .before .before .before .before .before .before .before .before .before .before .before .before .before .before .before .args .w) _ (c .before .before .before .before .before .before .before .before .before .before .before .before .before .before .before .before .before .before .pre .0) _ (c .before .before .before .before .before .before .before .before .before .before .before .before .before .before .before .before .sum5-row .ensures) _ (c .before .before .before .before .before .before .before .before .before .before .before .before .before .squares5-row .ensures) _ (c .before .before .before .before .before .before .before .before .before .before .sum5-row2 .ensures) _ (c .before .before .before .before .before .before .before .z5-row .ensures) _ (c .before .before .before .before .a2-row .ensures) _ (c .before .b2-row .ensures) .long
+same-length c = boxed 2 _ _ _ _ _ _ _ (c .before .before .before .before .before .before .before .before .before .before .before .before .before .before .before .pre .0) _ (c .before .before .before .before .before .before .before .before .before .before .before .before .before .down5-row .ensures) _ (c .before .before .before .before .before .before .before .before .before .before .sum5-row .ensures) _ (c .before .before .before .before .before .before .before .z5-row .ensures) _ (c .before .before .before .before .a2-row .ensures) _ (c .before .b2-row .ensures) .long
 
 returns : tie.Need-returns
-returns c = boxed 2 (c .before .before .before .before .before .before .before .before .before .before .before .before .before .before .before .before .before .before .args .z) (c .before .before .before .before .before .before .before .before .before .before .before .before .before .before .before .before .before .before .args .from) (c .before .before .before .before .before .before .before .before .before .before .before .before .before .before .before .before .before .before .args .line) (c .before .before .before .before .before .before .before .before .before .before .before .before .before .before .before .before .before .before .args .a) (c .before .before .before .before .before .before .before .before .before .before .before .before .before .before .before .before .before .before .args .b) (c .before .before .before .before .before .before .before .before .before .before .before .before .before .before .before .before .before .before .args .w) _ (c .before .before .before .before .before .before .before .before .before .before .before .before .before .before .before .before .before .before .pre .0) _ (c .before .before .before .before .before .before .before .before .before .before .before .before .before .before .before .before .sum5-row .ensures) _ (c .before .before .before .before .before .before .before .before .before .before .before .before .before .squares5-row .ensures) _ (c .before .before .before .before .before .before .before .before .before .before .sum5-row2 .ensures) _ (c .before .before .before .before .before .before .before .z5-row .ensures) _ (c .before .before .before .before .a2-row .ensures) _ (c .before .b2-row .ensures)
+returns c = boxed 2 _ _ _ _ _ _ _ (c .before .before .before .before .before .before .before .before .before .before .before .before .before .before .before .pre .0) _ (c .before .before .before .before .before .before .before .before .before .before .before .before .before .down5-row .ensures) _ (c .before .before .before .before .before .before .before .before .before .before .sum5-row .ensures) _ (c .before .before .before .before .before .before .before .z5-row .ensures) _ (c .before .before .before .before .a2-row .ensures) _ (c .before .b2-row .ensures)
 
 pub box-row5-spec : {M : Type 1} → statement M
 box-row5-spec =
@@ -59,11 +63,9 @@ box-row5-spec =
     add-va
     add-zb
     add-zs
-    add-sum5-row
+    add-down5-row
+    down5-row-requires
     sum5-row-requires
-    add-squares5-row
-    squares5-row-requires
-    sum5-row-requires-2
     z5-row-requires
     a2-row-requires
     b2-row-requires
