@@ -1,22 +1,20 @@
 -- The samples before i are in range; the first that is not is the answer.
 use Prim.Native.Nat.{_-_, _≤_}
 use native.Mathlib.Omega.{arith}
-use mathlib.Core.Path.{refl, sym, ap, _∙_}
+use mathlib.Core.Path.{refl, sym}
 use lib.Dec.{T}
-use lib.IntN.{ℤ}
+use lib.IntN.{pos}
 use lib.ListN.{length}
 use mir.Syntax.{w32}
-use mir.Val.{toZ}
-use mir.Facts.{toZ-ofZ}
 use Rattle.laws.specs.Lists.{allBelow}
 use Rattle.laws.specs.ReadBack.{returned}
-use Rattle.units.specs.First.{inRange, firstFailing, first-at}
+use Rattle.units.specs.First.{inRange, first-at}
 use Rattle.units.proofs.Search.{none-yet, one-more, all-passed, flag-passed, flag-failed, of-sample}
 use Rattle.units.proofs.samples.find_outside.Statement.{statement}
 use Rattle.units.proofs.samples.find_outside.Tie as tie
 
 abbrev Inv-loop : tie.InvT-loop
-Inv-loop s top i₀ i = (i ≤ length s) × T (allBelow i (inRange (toZ w32 top) s))
+Inv-loop s top i₀ i = (i ≤ length s) × T (allBelow i (inRange (pos top) s))
 
 abbrev μ-loop : tie.MeasureT-loop
 μ-loop s top i₀ i = length s - i
@@ -34,7 +32,7 @@ outside-requires : tie.Need-outside-requires Inv-loop μ-loop
 outside-requires c κs = tt
 
 returns : tie.Need-returns Inv-loop μ-loop
-returns c = let i = c .before .before .before in sym (first-at _ _ _ (i .loop-test .taken) (i .before .loop .inv .1) (flag-failed _ _ (of-sample _ _ _ _ _ (returned w32 (c .before .before .outside-arg .given) refl) (c .before .outside .ensures)) (c .if1 .taken))) ∙ ap (λ (z : ℤ). firstFailing (length ((i .before .before) .args .s .now)) (inRange z ((i .before .before) .args .s .now))) (toZ-ofZ ((i .before .before) .fits .top))
+returns c = let i = c .before .before .before in sym (first-at _ _ _ (i .loop-test .taken) (i .before .loop .inv .1) (flag-failed _ _ (of-sample _ _ _ _ _ (returned w32 (c .before .before .outside-arg .given) refl) (c .before .outside .ensures)) (c .if1 .taken)))
 
 add-i : tie.Need-add-i Inv-loop μ-loop
 add-i c = omega arith
@@ -46,7 +44,7 @@ loop-again : tie.Need-loop-again Inv-loop μ-loop
 loop-again c = let i = c .before .before .before in (omega arith, one-more _ _ (i .before .loop .inv .1) (flag-passed _ _ (of-sample _ _ _ _ _ (returned w32 (c .before .before .outside-arg .given) refl) (c .before .outside .ensures)) (c .if1 .left)))
 
 returns-2 : tie.Need-returns-2 Inv-loop μ-loop
-returns-2 c = let a = c .before in (omega (arith, all-passed _ _ _ (a .loop .inv .0) (c .loop-test .left) (a .loop .inv .1))) ∙ ap (λ (z : ℤ). firstFailing (length (a .before .args .s .now)) (inRange z (a .before .args .s .now))) (toZ-ofZ (a .before .fits .top))
+returns-2 c = let a = c .before in omega (arith, all-passed _ _ _ (a .loop .inv .0) (c .loop-test .left) (a .loop .inv .1))
 
 pub find-outside-spec : {M : Type 1} → statement M
 find-outside-spec =

@@ -2,11 +2,9 @@
 use Prim.Native.Nat.{ℕ, _-_, _≤_}
 use native.Mathlib.Omega.{arith}
 use mathlib.Core.Path.{_≡_, refl, ap, _∙_}
-use lib.IntN.{ℤ}
+use lib.IntN.{pos}
 use lib.ListN.{length}
 use mir.Syntax.{w32}
-use mir.Val.{toZ, ofZ}
-use mir.Facts.{toZ-ofZ}
 use Rattle.laws.specs.Lists.{allBelow}
 use Rattle.laws.specs.ReadBack.{returned}
 use Rattle.units.specs.First.{failed, inRange}
@@ -15,7 +13,7 @@ use Rattle.units.proofs.samples.some_outside.Statement.{statement}
 use Rattle.units.proofs.samples.some_outside.Tie as tie
 
 abbrev Inv-loop : tie.InvT-loop
-Inv-loop s top bad₀ i₀ bad i = (i ≤ length s) × (bad ≡ failed (allBelow i (inRange (toZ w32 top) s)))
+Inv-loop s top bad₀ i₀ bad i = (i ≤ length s) × (bad ≡ failed (allBelow i (inRange (pos top) s)))
 
 abbrev μ-loop : tie.MeasureT-loop
 μ-loop s top bad₀ i₀ bad i = length s - i
@@ -42,7 +40,7 @@ loop-again : tie.Need-loop-again Inv-loop μ-loop
 loop-again c = let i = c .before .before in (omega arith, flags-more _ _ _ _ (i .before .loop .inv .1) (of-sample _ _ _ _ _ (returned w32 (c .before .outside-arg .given) refl) (c .outside .ensures)))
 
 returns : tie.Need-returns Inv-loop μ-loop
-returns c = let a = c .before in a .loop .inv .1 ∙ ap (λ (n : ℕ). failed (allBelow n (inRange (toZ w32 (ofZ w32 (a .before .args .top))) (a .before .args .s .now)))) (omega arith) ∙ ap (λ (z : ℤ). failed (allBelow (length (a .before .args .s .now)) (inRange z (a .before .args .s .now)))) (toZ-ofZ (a .before .fits .top))
+returns c = let a = c .before in a .loop .inv .1 ∙ ap (λ (n : ℕ). failed (allBelow n (inRange (pos (a .before .args .top)) (a .before .args .s .now)))) (omega arith)
 
 pub some-outside-spec : {M : Type 1} → statement M
 some-outside-spec =
