@@ -1,82 +1,63 @@
--- The run so far is the stamp of j values of a2; what is read lies before it and is as it was.
-use Prim.Native.Nat.{ℕ, _+_, _-_, _≤_, _<_}
+-- Two runs end to end: fours, then what is left; what the second reads lies before both.
+use Prim.Native.Nat.{ℕ, _+_, _*_, _/_, _%_, _<_}
 use mathlib.Core.Path.{_≡_, _∙_, ap}
 use native.Mathlib.Omega.{arith}
 use lib.ListN.{length, getD}
-use lib.IntN.{pos}
-use mir.Syntax.{w32}
-use Rattle.laws.specs.ReadBack.{returned}
+use lib.IntN.{ℤ, pos, natAbs}
 use Rattle.laws.specs.Bounds.{samples-part, samples-same}
-use Rattle.laws.specs.Runs.{stamp, stamp-none, stamp-more, stamp-length, stamp-before}
-use lib.IntN.{natAbs}
+use Rattle.laws.specs.Runs.{stamp, stamp-next, stamp-length, stamp-before}
 use Rattle.standard.specs.SelfGuided.{a2Of}
 use Rattle.boxes.specs.Reads.{sampleAt}
+use borrow.Author.Needs.{needs}
 use Rattle.boxes.proofs.rows.a2_row.Statement.{statement}
 use Rattle.boxes.proofs.rows.a2_row.Tie as tie
 
-abbrev Inv-loop : tie.InvT-loop
-Inv-loop s₀ to from n tab j₀ s j = (j ≤ n) × (s ≡ stamp (λ k. pos (a2Of (sampleAt s₀ (from + k)))) to j s₀)
-
-abbrev μ-loop : tie.MeasureT-loop
-μ-loop s₀ to from n tab j₀ s j = n - j
-
-module _ (c : tie.In-loop Inv-loop μ-loop) where
-  abbrev a : tie.Start Inv-loop μ-loop
+module _ (c : tie.After-a2-fours) where
+  abbrev a : tie.Start
   a = c .before .before
 
-  kept : (k : ℕ) → k < a .args .to → getD (c .before .loop .s) k (pos 0) ≡ getD (a .args .s .now) k (pos 0)
-  kept k h = stamp-before _ _ _ _ _ _ _ (c .before .loop .inv .1) h
+  kept : (k : ℕ) → k < a .args .to → getD (c .a2-fours .last .0) k (pos 0) ≡ getD (a .args .s .now) k (pos 0)
+  kept k h = stamp-before _ _ _ _ _ _ _ (c .a2-fours .ensures) h
 
-  long : length (c .before .loop .s) ≡ length (a .args .s .now)
-  long = ap length (c .before .loop .inv .1) ∙ stamp-length _ _ _ _
+  long : length (c .a2-fours .last .0) ≡ length (a .args .s .now)
+  long = ap length (c .a2-fours .ensures) ∙ stamp-length _ _ _ _
 
-loop-holds : tie.Need-loop-holds Inv-loop μ-loop
-loop-holds c = (omega arith, stamp-none _ _ _)
+a2-fours-requires : tie.Need-a2-fours-requires
+a2-fours-requires c κs = let s = c .before in (omega arith, omega arith, samples-part _ _ (s .pre .2) (omega arith) (omega arith), s .pre .3)
 
-add-a2-at : tie.Need-add-a2-at Inv-loop μ-loop
-add-a2-at c = omega arith
+mul-a2-ones : tie.Need-mul-a2-ones
+mul-a2-ones c = search needs
 
-a2-at-requires : tie.Need-a2-at-requires Inv-loop μ-loop
-a2-at-requires c κs = let i = c .before in (omega (arith, long i), samples-same _ (samples-part _ _ (a i .pre .2) (omega arith) (omega arith)) (λ k p q. kept i k (omega arith)), a i .pre .3)
+add-a2-ones : tie.Need-add-a2-ones
+add-a2-ones c = search needs
 
-add-v : tie.Need-add-v Inv-loop μ-loop
-add-v c = omega arith
+mul-a2-ones-2 : tie.Need-mul-a2-ones-2
+mul-a2-ones-2 c = search needs
 
-mul-v : tie.Need-mul-v Inv-loop μ-loop
-mul-v c = omega arith
+add-a2-ones-2 : tie.Need-add-a2-ones-2
+add-a2-ones-2 c = search needs
 
-slice-set-from-v : tie.Need-slice-set-from-v Inv-loop μ-loop
-slice-set-from-v c = omega (arith, long (c .before .before))
+a2-ones-requires : tie.Need-a2-ones-requires
+a2-ones-requires c κs = let f = c .before .before in (omega arith, omega (arith, long f), samples-same _ (samples-part _ _ (a f .pre .2) (omega arith) (omega arith)) (λ k p q. kept f k (omega arith)), a f .pre .3)
 
-add-j : tie.Need-add-j Inv-loop μ-loop
-add-j c = omega arith
+same-length : tie.Need-same-length
+same-length c = search needs
 
-loop-less : tie.Need-loop-less Inv-loop μ-loop
-loop-less c = omega arith
-
-loop-again : tie.Need-loop-again Inv-loop μ-loop
-loop-again c = let i = c .before .before in (omega arith, stamp-more _ _ _ _ _ _ _ (i .before .loop .inv .1) (omega arith) (returned w32 (c .a2-at .ok) (c .a2-at .ensures ∙ ap (λ n. pos (a2Of n)) (ap natAbs (kept i (a i .args .from + i .before .loop .j) (omega arith))))))
-
-same-length : tie.Need-same-length Inv-loop μ-loop
-same-length c = ap length (c .before .loop .inv .1) ∙ stamp-length _ _ _ _
-
-returns : tie.Need-returns Inv-loop μ-loop
-returns c = let a = c .before .before .args in c .before .loop .inv .1 ∙ ap (λ (m : ℕ). stamp (λ k. pos (a2Of (sampleAt (a .s .now) (a .from + k)))) (a .to) m (a .s .now)) (omega arith)
+returns : tie.Need-returns
+returns c = let f = c .before .before .before .before in let s = a f .args in let F : ℕ → ℤ = λ k. pos (a2Of (sampleAt (s .s .now) (s .from + k))) in
+    stamp-next F _ (s .to) (4 * (s .n / 4)) (s .n % 4) _ (s .s .now) (f .a2-fours .last .0) _ (f .a2-fours .ensures) (c .before .a2-ones .ensures) (omega arith)
+    (λ k h. ap (λ n. pos (a2Of (natAbs n))) (kept f (s .from + 4 * (s .n / 4) + k) (omega arith)) ∙ ap (λ n. pos (a2Of (sampleAt (s .s .now) n))) (omega arith))
+    ∙ ap (λ n. stamp F (s .to) n (s .s .now)) (omega arith)
 
 pub a2-row-spec : {M : Type 1} → statement M
 a2-row-spec =
     tie.close
     (tie.spec
-    Inv-loop
-    μ-loop
-    loop-holds
-    add-a2-at
-    a2-at-requires
-    add-v
-    mul-v
-    slice-set-from-v
-    add-j
-    loop-less
-    loop-again
+    a2-fours-requires
+    mul-a2-ones
+    add-a2-ones
+    mul-a2-ones-2
+    add-a2-ones-2
+    a2-ones-requires
     same-length
     returns)
