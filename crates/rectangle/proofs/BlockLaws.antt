@@ -1,7 +1,7 @@
 -- Two rectangles side by side are one: runs at places apart may be written in either order, so row by row the two parts join.
 use mathlib.Core.Path.{_≡_, refl, sym, _∙_, ap}
 use mathlib.Core.List.{List}
-use Prim.Native.Nat.{ℕ, zero, suc, _+_, _*_, _<_, _≤_}
+use Prim.Native.Nat.{ℕ, zero, suc, _+_, _*_, _-_, _<_, _≤_}
 use native.Mathlib.Omega.{arith}
 use lib.IntN.{ℤ}
 use lib.ListN.{set}
@@ -48,13 +48,15 @@ module _ {A : Type 0} where
   paint-none x0 y0 zero w f d = refl
   paint-none x0 y0 (suc n) w f d = paint-none x0 y0 n w f d
 
-  -- a rectangle that is painted on to the right
-  pub paint-on : (x0 y0 v n rh w : ℕ) (f : ℕ → ℕ → A) (d l m : List A) → l ≡ paint x0 y0 v rh w f d → m ≡ paint (x0 + v) y0 n rh w f l → v + n ≤ w → m ≡ paint x0 y0 (v + n) rh w f d
-  paint-on x0 y0 v n rh w f d l m e g h =
-      g ∙ rows-same _ (λ y x. f (y0 + y) (x0 + (v + x))) (y0 * w + (x0 + v)) w n rh l (λ y x p q. ap (f (y0 + y)) (omega arith))
-      ∙ ap (λ (i : ℕ). rows (λ y x. f (y0 + y) (x0 + (v + x))) i w n rh l) {y = y0 * w + x0 + v} (omega arith)
-      ∙ ap (rows (λ y x. f (y0 + y) (x0 + (v + x))) (y0 * w + x0 + v) w n rh) e
-      ∙ rows-beside (λ y x. f (y0 + y) (x0 + x)) (y0 * w + x0) w v n rh d h
+  -- a rectangle that is painted on to the right, up to column x so far
+  pub paint-on : (x0 y0 x n rh w : ℕ) (f : ℕ → ℕ → A) (d l m : List A) → x0 ≤ x → l ≡ paint x0 y0 (x - x0) rh w f d → m ≡ paint x y0 n rh w f l → x + n ≤ w → m ≡ paint x0 y0 (x + n - x0) rh w f d
+  paint-on x0 y0 x n rh w f d l m p e g h =
+      let v : ℕ = x - x0 in
+      g ∙ rows-same _ (λ y k. f (y0 + y) (x0 + (v + k))) (y0 * w + x) w n rh l (λ y k q r. ap (f (y0 + y)) (omega arith))
+      ∙ ap (λ (i : ℕ). rows (λ y k. f (y0 + y) (x0 + (v + k))) i w n rh l) {y = y0 * w + x0 + v} (omega arith)
+      ∙ ap (rows (λ y k. f (y0 + y) (x0 + (v + k))) (y0 * w + x0 + v) w n rh) e
+      ∙ rows-beside (λ y k. f (y0 + y) (x0 + k)) (y0 * w + x0) w v n rh d (omega arith)
+      ∙ ap (λ (k : ℕ). paint x0 y0 k rh w f d) {y = x + n - x0} (omega arith)
 
 -- the taps of a block narrower than its rows
 pub block-taps : {c0 c1 c2 : ℤ} {tr : List ℤ} (n : ℕ) → n ≤ 64 → TapRows c0 c1 c2 64 tr → TapRows c0 c1 c2 n tr

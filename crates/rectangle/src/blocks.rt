@@ -6,7 +6,7 @@ use standard::Taps;
 use wiener::taps::horizontal_rows;
 use wiener::taps::vertical_rows;
 ghost use mathlib.Core.Path.{_≡_};
-ghost use Prim.Native.Nat.{_+_, _*_, _-_, _≤_, _<_, min};
+ghost use Prim.Native.Nat.{_+_, _*_, _≤_, _<_};
 ghost use lib.IntN.{pos};
 ghost use lib.ListN.{length};
 ghost use Rattle.laws.specs.Paint.{Within, paint};
@@ -15,17 +15,6 @@ ghost use Rattle.standard.specs.Wiener as standard_wiener;
 ghost use Rattle.units.specs.Legal.{LegalTaps};
 ghost use Rattle.wiener.specs.Passes.{TapRows};
 ghost use Rattle.rectangle.specs.View.{viewAt, Fetchable, Sides};
-
-// The width of the block at column x.
-fn width_at(rw: usize, x: usize) -> usize
-    requires { ⌜ x < rw ⌝ }
-    ensures { λ n. ⌜ n ≡ min 64 (rw - x) ⌝ }
-{
-    if rw - x < 64 {
-        return rw - x;
-    }
-    64
-}
 
 // Block after block; s is for the middle values. hr and vr repeat t's taps.
 fn wiener_blocks<'a>(
@@ -45,33 +34,19 @@ fn wiener_blocks<'a>(
     t: Taps,
     d: Depth,
 )
-    requires { ⌜ (h * w ≤ length (now out)) × (4480 ≤ length (now s)) × (0 < rh) × (rh ≤ 64) × Within x0 y0 rw rh w h × Sides w h ⌝ }
+    requires { ⌜ (h * w ≤ length (now out)) × (4480 ≤ length (now s)) × (0 < rw) × (0 < rh) × (rh ≤ 64) × Within x0 y0 rw rh w h × Sides w h ⌝ }
     requires { ⌜ LegalTaps t × TapRows (t .h0) (t .h1) (t .h2) 64 (now hr) × TapRows (t .v0) (t .v1) (t .v2) 64 (now vr) ⌝ }
     requires { ⌜ Fetchable (largest d) (now inside) (now beside) w h r ⌝ }
     ensures { λ _. ⌜ now (out .exit) ≡ paint x0 y0 rw rh w (λ y x. pos (standard_wiener.wiener d t (viewAt (now (inside .entry)) (now (beside .entry)) w h r y x))) (now (out .entry)) ⌝ }
 {
-    let mut x = 0;
-    while x < rw {
-        let n = width_at(rw, x);
-        wiener_block(
-            out,
-            inside,
-            beside,
-            w,
-            h,
-            r,
-            x0 + x,
-            y0,
-            n,
-            rh,
-            s,
-            hr,
-            vr,
-            t,
-            d,
-        );
-        x += n;
+    let stop = x0 + rw;
+    let mut x = x0;
+    while 64 < stop - x {
+        wiener_block(out, inside, beside, w, h, r, x, y0, 64, rh, s, hr, vr, t, d);
+        x += 64;
     }
+    let n = stop - x;
+    wiener_block(out, inside, beside, w, h, r, x, y0, n, rh, s, hr, vr, t, d);
 }
 
 // A rectangle of a Wiener unit.
@@ -89,7 +64,7 @@ pub fn wiener_rect<'a>(
     t: Taps,
     d: Depth,
 )
-    requires { ⌜ (h * w ≤ length (now out)) × (0 < rh) × (rh ≤ 64) × Within x0 y0 rw rh w h × Sides w h ⌝ }
+    requires { ⌜ (h * w ≤ length (now out)) × (0 < rw) × (0 < rh) × (rh ≤ 64) × Within x0 y0 rw rh w h × Sides w h ⌝ }
     requires { ⌜ LegalTaps t ⌝ }
     requires { ⌜ Fetchable (largest d) (now inside) (now beside) w h r ⌝ }
     ensures { λ _. ⌜ now (out .exit) ≡ paint x0 y0 rw rh w (λ y x. pos (standard_wiener.wiener d t (viewAt (now (inside .entry)) (now (beside .entry)) w h r y x))) (now (out .entry)) ⌝ }

@@ -11,6 +11,7 @@ use lib.Signed.{_≤ℤ_, _<ℤ_, mag, shrZ, ltZ}
 use Rattle.laws.specs.Bounds.{Samples, sample-is}
 use Rattle.laws.specs.Congruence.{ap2, ap4}
 use Rattle.laws.specs.Integers.{diff3, differences-out, difference-arith, le-in, le-out, ≤ℤ-trans}
+use Rattle.laws.specs.ReadBack.{integer-order}
 use Rattle.laws.specs.Linear.{#, _⊞_, _⊠_, ring, known-le, known-lt, shr-low, shr-high}
 use Rattle.laws.specs.Polynomial.{X, C, _⊹_, _∸ₚ_, _⋆_, identity}
 use Rattle.laws.specs.ReadBack.{abs-at, lt-true, lt-false, true-lt, false-lt}
@@ -122,13 +123,16 @@ down-mild {d} p = record {
 }
 
 -- ---- the clip: its two ends one after the other, and its size
-pub clip-ends : (lo hi x : ℤ) → lo ≤ℤ hi → cond (ltZ hi (cond (ltZ x lo) lo x)) hi (cond (ltZ x lo) lo x) ≡ clip3 lo hi x
+above : (lo hi x : ℤ) → lo ≤ℤ hi → hi <ℤ x → lo ≤ℤ x
+above lo hi x p q = omega integer-order
+
+pub clip-ends : (lo hi x : ℤ) → lo ≤ℤ hi → cond (ltZ (cond (ltZ hi x) hi x) lo) lo (cond (ltZ hi x) hi x) ≡ clip3 lo hi x
 unfolding clip3
-clip-ends lo hi x h = go (ltZ x lo)
+clip-ends lo hi x h = go (ltZ hi x) refl
   where
-    go : (t : Bool) → cond (ltZ hi (cond t lo x)) hi (cond t lo x) ≡ cond t lo (cond (ltZ hi x) hi x)
-    go true = ap (λ (s : Bool). cond s hi lo) (false-lt {x = hi} {y = lo} h)
-    go false = refl
+    go : (t : Bool) → ltZ hi x ≡ t → cond (ltZ (cond t hi x) lo) lo (cond t hi x) ≡ cond (ltZ x lo) lo (cond t hi x)
+    go true e = ap (λ (s : Bool). cond s lo hi) (false-lt {x = hi} {y = lo} h ∙ sym (false-lt {x = x} {y = lo} (above lo hi x h (lt-true e))))
+    go false e = refl
 
 mag-between : (lo hi z : ℤ) → mag lo < 32768 → mag hi < 32768 → lo ≤ℤ z → z ≤ℤ hi → mag z < 32768
 mag-between lo (pos b) (pos n) p q r s = omega (arith, le-in s)

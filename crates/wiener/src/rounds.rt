@@ -79,5 +79,5 @@ pub fn settle(z: i32, a: Rounding) -> i32
     let shift = a.shift;
     let low = a.low;
     let high = a.high;
-    at_most(high, at_least(low, (z + add) >> shift))
+    at_least(low, at_most(high, (z + add) >> shift))
 }

@@ -20,7 +20,7 @@ enum-known-kind c = search needs
 
 wiener-rect-requires : tie.Need-wiener-rect-requires
 wiener-rect-requires c κs = let s = c .before .before .before .before in let p = s .pre .0 in let k = c .before .before .kind .given in
-    ((p .0, p .4, p .5, p .6, p .7), (subst LegalKind (k .1) (s .pre .1 .0 .0), s .pre .1 .1))
+    ((p .0, p .2, p .4, p .5, p .6, p .7), (subst LegalKind (k .1) (s .pre .1 .0 .0), s .pre .1 .1))
 
 enum-known-kind-2 : tie.Need-enum-known-kind-2
 enum-known-kind-2 c = search needs

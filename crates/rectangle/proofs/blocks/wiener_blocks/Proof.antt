@@ -1,4 +1,4 @@
--- The columns so far are painted, and one more block paints on to the right.
+-- The columns so far are painted, and one more block paints on to the right; the last is as wide as what is left.
 use Prim.Native.Nat.{ℕ, _+_, _*_, _-_, _<_, _≤_}
 use mathlib.Core.Path.{_≡_, refl, _∙_, ap}
 use native.Mathlib.Omega.{arith}
@@ -14,66 +14,73 @@ use Rattle.rectangle.proofs.blocks.wiener_blocks.Statement.{statement}
 use Rattle.rectangle.proofs.blocks.wiener_blocks.Tie as tie
 
 abbrev Inv-loop : tie.InvT-loop
-Inv-loop out₀ inside beside w h r x0 y0 rw rh s₀ hr vr t d x₀ out s x = (x ≤ rw) × (length s ≡ length s₀) × (out ≡ paint x0 y0 x rh w (λ y x. pos (wiener d t (viewAt inside beside w h r y x))) out₀)
+Inv-loop out₀ inside beside w h r x0 y0 rw rh s₀ hr vr t d stop x₀ out s x = (x0 ≤ x) × (x < x0 + rw) × (length s ≡ length s₀) × (out ≡ paint x0 y0 (x - x0) rh w (λ y x. pos (wiener d t (viewAt inside beside w h r y x))) out₀)
 
 abbrev μ-loop : tie.MeasureT-loop
-μ-loop out₀ inside beside w h r x0 y0 rw rh s₀ hr vr t d x₀ out s x = rw - x
+μ-loop out₀ inside beside w h r x0 y0 rw rh s₀ hr vr t d stop x₀ out s x = x0 + rw - x
 
 abbrev shown : tie.Start Inv-loop μ-loop → ℕ → ℕ → ℤ
 shown s y x = let a = s .args in pos (wiener (a .d) (a .t) (viewAt (a .inside .now) (a .beside .now) (a .w) (a .h) (a .r) y x))
 
-module _ (c : tie.After-width-at Inv-loop μ-loop) where
-  abbrev l : tie.At-loop Inv-loop μ-loop
-  l = c .before .before
-
+module _ (l : tie.At-loop Inv-loop μ-loop) where
   abbrev a : tie.Start Inv-loop μ-loop
   a = l .before
 
-  width : (0 < c .width-at .result) × (c .width-at .result ≤ 64) × (l .loop .x + c .width-at .result ≤ a .args .rw)
-  width = (omega (arith, c .width-at .ensures), omega (arith, c .width-at .ensures), omega (arith, c .width-at .ensures))
-
   as-long : length (l .loop .out) ≡ length (a .args .out .now)
-  as-long = ap length (l .loop .inv .2) ∙ rows-length _ _ _ _ _ _
+  as-long = ap length (l .loop .inv .3) ∙ rows-length _ _ _ _ _ _
 
-  few : (a .args .rh + 6) * c .width-at .result ≤ 4480
-  few = omega (arith, mul-le-mul-right {m = a .args .rh + 6} {n = 70} (c .width-at .result) (omega (arith, a .pre .0 .3)), width .1)
+  -- the middle values of a block of n columns
+  few : (n : ℕ) → n ≤ 64 → (a .args .rh + 6) * n ≤ length (l .loop .s)
+  few n p = omega (arith, mul-le-mul-right {m = a .args .rh + 6} {n = 70} n (omega (arith, a .pre .0 .4)), a .pre .0 .1, l .loop .inv .2)
+
+add-stop : tie.Need-add-stop Inv-loop μ-loop
+add-stop c = omega (arith, c .pre .0 .5 .right)
 
 loop-holds : tie.Need-loop-holds Inv-loop μ-loop
-loop-holds c = (omega arith, refl, paint-none {A = ℤ} (c .args .x0) (c .args .y0) (c .args .rh) (c .args .w) (shown c) (c .args .out .now))
+loop-holds c = (omega arith, omega (arith, c .pre .0 .2), refl, paint-none {A = ℤ} (c .args .x0) (c .args .y0) (c .args .rh) (c .args .w) (shown c) (c .args .out .now) ∙ ap (λ n. paint (c .args .x0) (c .args .y0) n (c .args .rh) (c .args .w) (shown c) (c .args .out .now)) {y = c .args .x0 - c .args .x0} (omega arith))
 
-width-at-requires : tie.Need-width-at-requires Inv-loop μ-loop
-width-at-requires c κs = omega arith
-
-add-wiener-block : tie.Need-add-wiener-block Inv-loop μ-loop
-add-wiener-block c = let s = a (c .before) in omega (arith, s .pre .0 .4 .right, width (c .before) .2)
+sub-loop : tie.Need-sub-loop Inv-loop μ-loop
+sub-loop c = omega (arith, c .loop .inv .1)
 
 wiener-block-requires : tie.Need-wiener-block-requires Inv-loop μ-loop
-wiener-block-requires c κs = let b = c .before .before in let s = a b in let p = s .pre .0 in let n = width b in (
-  (omega (arith, p .0, as-long b), omega (arith, p .1, l b .loop .inv .1, few b), n .0, n .1, p .2, p .3, record { right = omega (arith, p .4 .right, n .2); low = p .4 .low }, p .5),
-  ((s .pre .1 .0 .0, block-taps _ (n .1) (s .pre .1 .0 .1), block-taps _ (n .1) (s .pre .1 .0 .2)), s .pre .1 .1),
+wiener-block-requires c κs = let l = c .before .before .before in let s = a l in let p = s .pre .0 in (
+  (omega (arith, p .0, as-long l), few l 64 (omega arith), omega arith, omega arith, p .3, p .4, record { right = omega (arith, p .5 .right, c .before .before .loop-test .taken); low = p .5 .low }, p .6),
+  ((s .pre .1 .0 .0, s .pre .1 .0 .1, s .pre .1 .0 .2), s .pre .1 .1),
 )
 
 add-x : tie.Need-add-x Inv-loop μ-loop
-add-x c = let b = c .before .before .before .before .before in omega (arith, a b .pre .0 .4 .right, width b .2)
+add-x c = let i = c .before .before .before .before .before in omega (arith, a (i .before) .pre .0 .5 .right, i .loop-test .taken)
 
 loop-less : tie.Need-loop-less Inv-loop μ-loop
-loop-less c = let b = c .before .before .before .before .before in omega (arith, width b .0, width b .2)
+loop-less c = let i = c .before .before .before .before .before in omega (arith, i .loop-test .taken)
 
 loop-again : tie.Need-loop-again Inv-loop μ-loop
-loop-again c = let b = c .before .before .before .before .before in let s = a b in let v = l b .loop .inv in (
-  width b .2,
-  c .before .before .wiener-block .kept .1 .1 .1 .1 .1 .1 .1 .1 .1 .1 .0 ∙ v .1,
-  paint-on {A = ℤ} (s .args .x0) (s .args .y0) (l b .loop .x) (b .width-at .result) (s .args .rh) (s .args .w) (shown s) (s .args .out .now) (l b .loop .out) _ (v .2) (c .before .before .wiener-block .ensures) (omega (arith, s .pre .0 .4 .right, width b .2)),
+loop-again c = let i = c .before .before .before .before .before in let l = i .before in let s = a l in let v = l .loop .inv in (
+  omega (arith, v .0),
+  omega (arith, i .loop-test .taken),
+  c .before .before .wiener-block .kept .1 .1 .1 .1 .1 .1 .1 .1 .1 .1 .0 ∙ v .2,
+  paint-on {A = ℤ} (s .args .x0) (s .args .y0) (l .loop .x) 64 (s .args .rh) (s .args .w) (shown s) (s .args .out .now) (l .loop .out) _ (v .0) (v .3) (c .before .before .wiener-block .ensures) (omega (arith, s .pre .0 .5 .right, i .loop-test .taken)),
+)
+
+sub-n : tie.Need-sub-n Inv-loop μ-loop
+sub-n c = omega (arith, c .before .loop .inv .1)
+
+wiener-block-requires-2 : tie.Need-wiener-block-requires-2 Inv-loop μ-loop
+wiener-block-requires-2 c κs = let e = c .before .before in let l = e .before in let s = a l in let p = s .pre .0 in let v = l .loop .inv in (
+  (omega (arith, p .0, as-long l), few l _ (omega (arith, e .loop-test .left)), omega (arith, v .1), omega (arith, e .loop-test .left), p .3, p .4, record { right = omega (arith, p .5 .right, v .1); low = p .5 .low }, p .6),
+  ((s .pre .1 .0 .0, block-taps _ (omega (arith, e .loop-test .left)) (s .pre .1 .0 .1), block-taps _ (omega (arith, e .loop-test .left)) (s .pre .1 .0 .2)), s .pre .1 .1),
 )
 
 same-length : tie.Need-same-length Inv-loop μ-loop
-same-length c = ap length (c .before .loop .inv .2) ∙ rows-length _ _ _ _ _ _
+same-length c = let e = c .before .before .before .before .before in c .before .before .wiener-block2 .kept .0 ∙ as-long (e .before)
 
 same-length-2 : tie.Need-same-length-2 Inv-loop μ-loop
-same-length-2 c = c .before .loop .inv .1
+same-length-2 c = let e = c .before .before .before .before .before in c .before .before .wiener-block2 .kept .1 .1 .1 .1 .1 .1 .1 .1 .1 .1 .0 ∙ e .before .loop .inv .2
 
 returns : tie.Need-returns Inv-loop μ-loop
-returns c = let s = c .before .before .args in c .before .loop .inv .2 ∙ ap (λ (n : ℕ). paint (s .x0) (s .y0) n (s .rh) (s .w) (λ y x. pos (wiener (s .d) (s .t) (viewAt (s .inside .now) (s .beside .now) (s .w) (s .h) (s .r) y x))) (s .out .now)) (omega arith)
+returns c = let e = c .before .before .before .before .before in let l = e .before in let s = a l in let v = l .loop .inv in
+    paint-on {A = ℤ} (s .args .x0) (s .args .y0) (l .loop .x) (s .args .x0 + s .args .rw - l .loop .x) (s .args .rh) (s .args .w) (shown s) (s .args .out .now) (l .loop .out) _ (v .0) (v .3) (c .before .before .wiener-block2 .ensures) (omega (arith, s .pre .0 .5 .right, v .1))
+    ∙ ap (λ (n : ℕ). paint (s .args .x0) (s .args .y0) n (s .args .rh) (s .args .w) (shown s) (s .args .out .now)) (omega (arith, v .0, v .1))
 
 pub wiener-blocks-spec : {M : Type 1} → statement M
 wiener-blocks-spec =
@@ -81,13 +88,15 @@ wiener-blocks-spec =
     (tie.spec
     Inv-loop
     μ-loop
+    add-stop
     loop-holds
-    width-at-requires
-    add-wiener-block
+    sub-loop
     wiener-block-requires
     add-x
     loop-less
     loop-again
+    sub-n
+    wiener-block-requires-2
     same-length
     same-length-2
     returns)

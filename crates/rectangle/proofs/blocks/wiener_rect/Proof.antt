@@ -14,7 +14,7 @@ slice-aggregate-wiener-blocks c = search needs
 
 wiener-blocks-requires : tie.Need-wiener-blocks-requires
 wiener-blocks-requires c κs = let v = c .before .before .before .before in let h = v .before .before in let s = h .before .before in let p = s .pre .0 in
-    ((p .0, search needs, p .1, p .2, p .3, p .4), ((s .pre .1 .0, h .horizontal-rows .ensures, v .vertical-rows .ensures), s .pre .1 .1))
+    ((p .0, search needs, p .1, p .2, p .3, p .4, p .5), ((s .pre .1 .0, h .horizontal-rows .ensures, v .vertical-rows .ensures), s .pre .1 .1))
 
 same-length : tie.Need-same-length
 same-length c = search needs

@@ -32,29 +32,29 @@ low s = Var (s .args .a .low) 32768 (size (s .args .a .low) (s .pre .1 .low-size
 abbrev high : tie.Start → Expression
 high s = Var (s .args .a .high) 32768 (size (s .args .a .high) (s .pre .1 .high-size))
 
-add-at-least : tie.Need-add-at-least
-add-at-least c = safe w32 (raised (c .before .before .before)) tt
+add-at-most : tie.Need-add-at-most
+add-at-most c = safe w32 (raised (c .before .before .before)) tt
 
-cast-at-least : tie.Need-cast-at-least
-cast-at-least c = omega (arith, c .before .before .before .pre .1 .shift-size)
+cast-at-most : tie.Need-cast-at-most
+cast-at-most c = omega (arith, c .before .before .before .pre .1 .shift-size)
 
-shr-at-least : tie.Need-shr-at-least
-shr-at-least c = omega (arith, c .before .before .before .pre .1 .shift-size)
-
-at-least-requires : tie.Need-at-least-requires
-at-least-requires c κs = search needs
+shr-at-most : tie.Need-shr-at-most
+shr-at-most c = omega (arith, c .before .before .before .pre .1 .shift-size)
 
 at-most-requires : tie.Need-at-most-requires
 at-most-requires c κs = search needs
 
+at-least-requires : tie.Need-at-least-requires
+at-least-requires c κs = search needs
+
 returns : tie.Need-returns
 unfolding settled
 returns c = let l = c .before in let s = l .before .before .before .before in
-    returned w32 (c .at-most .ok) (c .at-most .ensures
-    ∙ ap2 (λ h m. cond (ltZ h m) h m) (is-exact w32 (high s) tt) (returned w32 (l .at-least .ok) (l .at-least .ensures ∙ ap2 (λ n v. cond (ltZ v n) n v) (is-exact w32 (low s) tt) (is-exact w32 (shifted s) tt)))
+    returned w32 (c .at-least .ok) (c .at-least .ensures
+    ∙ ap2 (λ n m. cond (ltZ m n) n m) (is-exact w32 (low s) tt) (returned w32 (l .at-most .ok) (l .at-most .ensures ∙ ap2 (λ h v. cond (ltZ h v) h v) (is-exact w32 (high s) tt) (is-exact w32 (shifted s) tt)))
     ∙ clip-ends _ _ _ (s .pre .1 .order))
 
 pub settle-spec : {M : Type 1} → statement M
 settle-spec =
     tie.close
-    (tie.spec add-at-least cast-at-least shr-at-least at-least-requires at-most-requires returns)
+    (tie.spec add-at-most cast-at-most shr-at-most at-most-requires at-least-requires returns)
