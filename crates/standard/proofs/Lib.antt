@@ -3,6 +3,8 @@ pub mod Opened
 pub mod Values
 pub mod Recorded
 pub mod Witness
+pub mod Conditions
+pub mod Cases
 -- Sums, and the arms of definitions by cases
 pub mod Sums
 pub mod Arms
