@@ -3,19 +3,21 @@
 use mathlib.Core.Path.{_≡_, refl}
 use mathlib.Core.Bool.{true, false}
 use mathlib.Core.List.{List, [], _∷_, _++_, map}
-use Prim.Native.Nat.{ℕ, zero, suc, _/_, _%_}
+use Prim.Native.Nat.{ℕ, zero, suc, _+_, _/_, _%_}
 use lib.IntN.{ℤ, pos, negsuc}
-use lib.ListN.{length, take, drop, replicate}
+use lib.ListN.{length, take, drop, replicate, set}
 use Rattle.laws.specs.Lists.{listing}
 use Rattle.standard.specs.declared.Frame.{Frame}
 use Rattle.standard.specs.declared.Scaling.{Scaling}
+use Rattle.standard.specs.declared.Geometry.{Geometry}
 use Rattle.standard.specs.declared.Kind.{Kind}
 use Rattle.standard.specs.declared.Kind.the-variants.{None, Wiener, SelfGuided}
 use Rattle.standard.specs.SelfGuided.{sgr, scale}
-use Rattle.standard.specs.Stripes.{stripeStartY, stripeEndY, rectangles, left, right, rectangle}
+use Rattle.standard.specs.Stripes.{stripeStartY, stripeEndY, rectangles, left, right, rectangle, block}
+use Rattle.standard.specs.Planes.{above, below, edges}
 use Rattle.standard.specs.Refusals.{first, scratchNeed, copyNeed, wide, planeTests, captureTests, countTests, rectangleTests, upscaleTests, sameShape, scalingShape, sampleTests}
 use Rattle.standard.specs.Answers.{noCounts, nowhere, noFrame, noSections, noReport}
-use Rattle.standard.specs.Calls.{shapeOf, planeChanged, planeAnswer, planeOut, captureEdges, countsOf, countAnswer, rectangleAnswer, upscaledSlice, upscaleOut, byteWindow, sampleAnswer}
+use Rattle.standard.specs.Calls.{shapeOf, planeChanged, planeAnswer, planeOut, captureEdges, ownRows, stripeCallNumber, countsOf, countAnswer, rectangleAnswer, upscaledSlice, upscaleOut, byteWindow, sampleAnswer}
 use Rattle.standard.specs.Job.{Job, entryBytes, jobEntries, jobBytes, signed16, frameOf, jobOf, no17, no18, formTests, sectionsOf, openAnswer, laid, openRoom, jobTests, jobNumber, jobRows, jobCall, jobStripes, inPlace, jobDiffers, jobReport, runAnswer, runRows}
 use Rattle.standard.proofs.Opened.{opened}
 
@@ -265,3 +267,52 @@ sharp = pos 1 ∷ pos 10 ∷ pos 8 ∷ pos 46 ∷ negsuc 4 ∷ negsuc 22 ∷ neg
 sampled : sampleAnswer 8 0 sharp window ∷ sampleAnswer 9 0 sharp window ∷ sampleAnswer 8 0 sharp [] ∷ [] ≡ pos 138 ∷ negsuc 0 ∷ negsuc 6 ∷ []
 unfolding window sharp sampleAnswer sampleTests byteWindow wide opened
 sampled = refl
+
+-- ---- the blocks that the reference derives (recorded/blocks.rec): a last row, a last column, one subsampled across only
+placed : ℕ → ℕ → ℕ → ℕ → ℕ → ℕ → ℤ → ℤ → ℤ → ℤ → Geometry
+placed ur uc x y w h start stop right bottom =
+    record { «unit_row» = ur; «unit_col» = uc; x = x; y = y; w = w; h = h; «stripe_start_y» = start; «stripe_end_y» = stop; «plane_end_x» = right; «plane_end_y» = bottom }
+
+blocks : block 1 1 32 133 112 66 40 ∷ block 1 1 32 260 49 92 24 ∷ block 1 0 64 257 127 64 35 ∷ []
+    ≡ placed 3 2 80 132 2 1 (pos 124) (pos 155) (pos 111) (pos 132) ∷ placed 5 1 48 184 1 2 (pos 156) (pos 187) (pos 48) (pos 259) ∷
+    placed 3 1 70 256 2 1 (pos 248) (pos 311) (pos 126) (pos 256) ∷ []
+unfolding placed block stripeStartY stripeEndY opened
+blocks = refl
+
+-- ---- what a stripe reads. Two boundaries of a plane two columns wide
+edge-parts : listing 4 (above 0 130 2 (listing 16 pos)) ++ listing 3 (below 0 130 2 (listing 16 pos))
+    ≡ [] ∷ map pos (0 ∷ 1 ∷ 2 ∷ 3 ∷ []) ∷ map pos (8 ∷ 9 ∷ 10 ∷ 11 ∷ []) ∷ [] ∷ map pos (4 ∷ 5 ∷ 6 ∷ 7 ∷ []) ∷ map pos (12 ∷ 13 ∷ 14 ∷ 15 ∷ []) ∷ [] ∷ []
+unfolding opened
+edge-parts = refl
+
+edge-cells : listing 16 (λ n. edges 2 (listing 16 pos) (n / 8 + 1) (n / 2 % 4) (n % 2)) ≡ listing 16 (λ n. n)
+unfolding opened
+edge-cells = refl
+
+-- 65 rows by one column of a subsampled plane: stripes of 28, 32 and 5 rows
+column : Frame
+column = frame 1 1 1 8 130 2 64 0
+
+own : ownRows column (listing 65 pos) 0 ∷ ownRows column (listing 65 pos) 1 ∷ ownRows column (listing 65 pos) 2 ∷ []
+    ≡ listing 28 pos ∷ listing 32 (λ n. pos (28 + n)) ∷ listing 5 (λ n. pos (60 + n)) ∷ []
+unfolding column frame opened
+own = refl
+
+-- the number of stripe s where one edge sample, or one sample of the plane, is out of range: given by what the stripe reads, and by no other
+edge-number : ℕ → ℕ → ℕ
+edge-number s n = stripeCallNumber (record { frame = column; table = []; edges = set (replicate 8 (pos 0)) n (negsuc 0); stripe = s; scratch = 0; copy = 0 })
+    (record { plane = replicate 65 (pos 0); marks = 0 ∷ 0 ∷ 0 ∷ [] })
+
+plane-number : ℕ → ℕ → ℕ
+plane-number s n = stripeCallNumber (record { frame = column; table = []; edges = replicate 8 (pos 0); stripe = s; scratch = 0; copy = 0 })
+    (record { plane = set (replicate 65 (pos 0)) n (negsuc 0); marks = 0 ∷ 0 ∷ 0 ∷ [] })
+
+edge-numbers : listing 3 (λ s. listing 8 (edge-number s))
+    ≡ (0 ∷ 0 ∷ 15 ∷ 15 ∷ 0 ∷ 0 ∷ 0 ∷ 0 ∷ []) ∷ (15 ∷ 15 ∷ 0 ∷ 0 ∷ 0 ∷ 0 ∷ 15 ∷ 15 ∷ []) ∷ (0 ∷ 0 ∷ 0 ∷ 0 ∷ 15 ∷ 15 ∷ 0 ∷ 0 ∷ []) ∷ []
+unfolding edge-number column frame opened
+edge-numbers = refl
+
+plane-numbers : listing 3 (λ s. map (plane-number s) (0 ∷ 27 ∷ 28 ∷ 59 ∷ 60 ∷ 64 ∷ []))
+    ≡ (15 ∷ 15 ∷ 0 ∷ 0 ∷ 0 ∷ 0 ∷ []) ∷ (0 ∷ 0 ∷ 15 ∷ 15 ∷ 0 ∷ 0 ∷ []) ∷ (0 ∷ 0 ∷ 0 ∷ 0 ∷ 15 ∷ 15 ∷ []) ∷ []
+unfolding plane-number column frame opened
+plane-numbers = refl
