@@ -7,6 +7,12 @@ use Prim.Native.Nat.{ℕ, zero, suc, _+_, _/_, _%_}
 use lib.IntN.{ℤ, pos, negsuc}
 use lib.ListN.{length, take, drop, replicate, set}
 use Rattle.laws.specs.Lists.{listing}
+use Rattle.standard.specs.declared.Refusal.{Refusal}
+use Rattle.standard.specs.declared.Refusal.the-variants.{ShortScratch}
+use Rattle.standard.specs.declared.Restored.{Restored}
+use Rattle.standard.specs.declared.Counted.{Counted}
+use Rattle.standard.specs.declared.Placed.{Placed}
+use Rattle.standard.specs.declared.JobRefusal.the-variants.{NoJob, OverBound, Table}
 use Rattle.standard.specs.declared.Frame.{Frame}
 use Rattle.standard.specs.declared.Scaling.{Scaling}
 use Rattle.standard.specs.declared.Geometry.{Geometry}
@@ -16,7 +22,7 @@ use Rattle.standard.specs.SelfGuided.{sgr, scale}
 use Rattle.standard.specs.Stripes.{stripeStartY, stripeEndY, rectangles, left, right, rectangle, block}
 use Rattle.standard.specs.Planes.{above, below, edges}
 use Rattle.standard.specs.Refusals.{first, scratchNeed, copyNeed, wide, planeTests, captureTests, countTests, rectangleTests, upscaleTests, sameShape, scalingShape, sampleTests}
-use Rattle.standard.specs.Answers.{noCounts, nowhere, noFrame, noSections, noReport}
+use Rattle.standard.specs.Answers.{refusalNumber, jobRefusalNumber, ofRestored, ofCounted, ofPlaced, noCounts, nowhere, noFrame, noSections, noReport}
 use Rattle.standard.specs.Calls.{shapeOf, planeChanged, planeAnswer, planeOut, captureEdges, ownRows, stripeCallNumber, countsOf, countAnswer, rectangleAnswer, upscaledSlice, upscaleOut, byteWindow, sampleAnswer}
 use Rattle.standard.specs.Job.{Job, entryBytes, jobEntries, jobBytes, signed16, frameOf, jobOf, no17, no18, formTests, sectionsOf, openAnswer, laid, openRoom, jobTests, jobNumber, jobRows, jobCall, jobStripes, inPlace, jobDiffers, jobReport, runAnswer, runRows}
 use Rattle.standard.proofs.Opened.{opened}
@@ -185,6 +191,14 @@ guided12-rows : runRows (jobBytes guided12) (replicate 9 (negsuc 0))
     ≡ map pos (563 ∷ 363 ∷ 402 ∷ 518 ∷ 347 ∷ 435 ∷ 300 ∷ 304 ∷ []) ++ (negsuc 0 ∷ [])
 unfolding guided12 frame job-opened opened
 guided12-rows = refl
+
+-- ---- numbers: 17 and 18 before the table's; zeros beside a refusal
+job-numbers : map jobRefusalNumber (NoJob ∷ OverBound ∷ Table ShortScratch ∷ []) ≡ 17 ∷ 18 ∷ 16 ∷ []
+unfolding jobRefusalNumber refusalNumber
+job-numbers = refl
+
+zeros : (why : Refusal) → (ofRestored (Restored.Refused why) .1 ≡ 0) × (ofCounted (Counted.Refused why) .1 ≡ noCounts) × (ofPlaced (Placed.Refused why) .1 ≡ nowhere)
+zeros why = (refl, refl, refl)
 
 -- ---- self-guided: s of each set's passes, 0 where a pass is left out
 passes : listing 16 (λ set. sgr set .0 ∷ scaleOf (sgr set .0) (sgr set .1) ∷ sgr set .2 ∷ scaleOf (sgr set .2) (sgr set .3) ∷ [])
