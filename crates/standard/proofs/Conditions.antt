@@ -124,6 +124,7 @@ eleven = refl
 frame : ℕ → ℕ → ℕ → ℕ → ℕ → ℕ → ℕ → ℕ → Frame
 frame p sx sy d h w size type = record { plane = p; «sub_x» = sx; «sub_y» = sy; depth = d; «frame_height» = h; «upscaled_width» = w; «unit_size» = size; «frame_type» = type }
 
+-- two rows by three columns; `long` is a table that is illegal, and too long by one number
 good : Frame
 good = frame 0 1 1 8 2 3 64 1
 
@@ -133,7 +134,6 @@ six z = z ∷ replicate 5 (pos 0)
 long : List ℤ
 long = pos 3 ∷ replicate 10 (pos 0)
 
--- table, D, C, out, scratch: how many rows the plane has, and what is illegal in it
 plane : Frame → List ℤ → List ℤ → List ℤ → ℕ → ℕ → ℕ
 plane f table D C out scratch = first (planeTests f table D C out scratch)
 
@@ -188,7 +188,7 @@ stripe-parts : first (stripeTests (tall 64 1) 0 (none (pos 0)) 4 57 (0 ∷ 1 ∷
 unfolding frame tall long none entry opened
 stripe-parts = refl
 
--- counts and rectangle: depth and type are not looked at. 3 by 2 units, 3 stripes
+-- counts and rectangle: depth and type are not looked at. Three stripes of two unit columns
 place-order : first (countTests (frame 3 2 2 9 0 0 63 4)) ∷ first (countTests (frame 1 1 1 9 0 0 63 4)) ∷ first (countTests (frame 1 1 1 9 1 1 63 4)) ∷ first (countTests (frame 1 1 1 9 1 1 64 4)) ∷
     first (rectangleTests (frame 3 2 2 9 0 0 63 4) 6) ∷ first (rectangleTests (frame 1 1 1 9 0 0 63 4) 6) ∷ first (rectangleTests (frame 1 1 1 9 130 200 63 4) 6) ∷
     first (rectangleTests (frame 1 1 1 9 130 200 64 4) 6) ∷ first (rectangleTests (frame 1 1 1 9 130 200 64 4) 5) ∷ []
