@@ -18,6 +18,8 @@ use Rattle.standard.specs.declared.Scaling.{Scaling}
 use Rattle.standard.specs.declared.Geometry.{Geometry}
 use Rattle.standard.specs.declared.Kind.{Kind}
 use Rattle.standard.specs.declared.Kind.the-variants.{None, Wiener, SelfGuided}
+use Rattle.standard.specs.declared.Depth.the-variants.{Eight, Ten, Twelve}
+use Rattle.standard.specs.Depths.{bits, r0, r1, largest, offset, limit}
 use Rattle.standard.specs.SelfGuided.{sgr, scale}
 use Rattle.standard.specs.Stripes.{stripeStartY, stripeEndY, rectangles, left, right, rectangle, block}
 use Rattle.standard.specs.Planes.{above, below, edges}
@@ -200,6 +202,11 @@ job-numbers = refl
 zeros : (why : Refusal) → (ofRestored (Restored.Refused why) .1 ≡ 0) × (ofCounted (Counted.Refused why) .1 ≡ noCounts) × (ofPlaced (Placed.Refused why) .1 ≡ nowhere)
 zeros why = (refl, refl, refl)
 
+-- ---- what belongs to a depth
+depths : map (λ d. bits d ∷ r0 d ∷ r1 d ∷ largest d ∷ offset d ∷ limit d ∷ []) (Eight ∷ Ten ∷ Twelve ∷ [])
+    ≡ (8 ∷ 3 ∷ 11 ∷ 255 ∷ 2048 ∷ 8191 ∷ []) ∷ (10 ∷ 3 ∷ 11 ∷ 1023 ∷ 8192 ∷ 32767 ∷ []) ∷ (12 ∷ 5 ∷ 9 ∷ 4095 ∷ 8192 ∷ 32767 ∷ []) ∷ []
+depths = refl
+
 -- ---- self-guided: s of each set's passes, 0 where a pass is left out
 passes : listing 16 (λ set. sgr set .0 ∷ scaleOf (sgr set .0) (sgr set .1) ∷ sgr set .2 ∷ scaleOf (sgr set .2) (sgr set .3) ∷ [])
     ≡ (2 ∷ 140 ∷ 1 ∷ 3236 ∷ []) ∷ (2 ∷ 112 ∷ 1 ∷ 2158 ∷ []) ∷ (2 ∷ 93 ∷ 1 ∷ 1618 ∷ []) ∷ (2 ∷ 80 ∷ 1 ∷ 1438 ∷ []) ∷ (2 ∷ 70 ∷ 1 ∷ 1295 ∷ []) ∷ (2 ∷ 58 ∷ 1 ∷ 1177 ∷ []) ∷
@@ -270,6 +277,17 @@ upscaled-rows : upscaleOut (scaling 32 1) input (replicate 32 (pos 7)) ∷ upsca
     ≡ (map pos (0 ∷ 0 ∷ 0 ∷ 3 ∷ 4 ∷ 0 ∷ 0 ∷ 29 ∷ 99 ∷ 141 ∷ 137 ∷ 124 ∷ 125 ∷ 129 ∷ 129 ∷ 128 ∷ []) ++ replicate 16 (pos 9)) ∷ input ∷ replicate 3 (pos 7) ∷ []
 unfolding scaling input upscaleOut upscaledSlice upscaleTests sameShape scalingShape opened
 upscaled-rows = refl
+
+-- two rows of 13 columns, of which four are read (recorded/upscale.rec)
+wide-rows : Scaling
+wide-rows = record { plane = 1; «sub_x» = 1; «sub_y» = 0; depth = 10; «frame_width» = 2; «upscaled_width» = 4; «frame_height» = 2; «use_superres» = 1; «in_rows» = 2; «in_cols» = 13; «out_rows» = 2; «out_cols» = 2 }
+
+recorded-rows : upscaleOut wide-rows (map pos
+    (778 ∷ 921 ∷ 765 ∷ 431 ∷ 14 ∷ 921 ∷ 516 ∷ 1017 ∷ 541 ∷ 713 ∷ 262 ∷ 725 ∷ 941 ∷
+    550 ∷ 118 ∷ 13 ∷ 963 ∷ 766 ∷ 355 ∷ 478 ∷ 13 ∷ 799 ∷ 195 ∷ 694 ∷ 776 ∷ 672 ∷ [])) (replicate 4 (pos 7))
+    ≡ map pos (761 ∷ 814 ∷ 583 ∷ 482 ∷ [])
+unfolding wide-rows upscaleOut upscaledSlice upscaleTests sameShape scalingShape opened
+recorded-rows = refl
 
 -- one sample of 255 in a window of 0 (recorded/samples.rec, as in Recorded), and refused
 window : List ℕ

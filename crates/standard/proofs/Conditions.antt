@@ -255,12 +255,12 @@ unfolding sample bytes none entry wide sampleTests opened
 sample-order = refl
 
 -- ---- what the frame's numbers say of the plane: luma is not subsampled, a half is rounded up
-planes : map (λ f. subX f ∷ subY f ∷ planeWidth f ∷ planeHeight f ∷ []) (frame 0 1 1 8 21 31 64 1 ∷ frame 1 1 1 8 21 31 64 1 ∷ frame 2 1 0 8 21 31 64 1 ∷ [])
-    ≡ (0 ∷ 0 ∷ 31 ∷ 21 ∷ []) ∷ (1 ∷ 1 ∷ 16 ∷ 11 ∷ []) ∷ (1 ∷ 0 ∷ 16 ∷ 21 ∷ []) ∷ []
+planes : map (λ f. subX f ∷ subY f ∷ planeWidth f ∷ planeHeight f ∷ []) (frame 0 1 1 8 21 31 64 1 ∷ frame 1 1 1 8 21 31 64 1 ∷ frame 2 1 0 8 21 31 64 1 ∷ frame 2 1 1 8 21 31 64 1 ∷ [])
+    ≡ (0 ∷ 0 ∷ 31 ∷ 21 ∷ []) ∷ (1 ∷ 1 ∷ 16 ∷ 11 ∷ []) ∷ (1 ∷ 0 ∷ 16 ∷ 21 ∷ []) ∷ (1 ∷ 1 ∷ 16 ∷ 11 ∷ []) ∷ []
 unfolding frame opened
 planes = refl
 
-scaled : map (λ s. downWidth s ∷ upWidth s ∷ scaledHeight s ∷ []) (scaling 0 1 1 8 21 31 41 1 0 0 0 0 ∷ scaling 1 1 1 8 21 31 41 1 0 0 0 0 ∷ scaling 2 1 0 8 21 31 41 1 0 0 0 0 ∷ [])
-    ≡ (21 ∷ 31 ∷ 41 ∷ []) ∷ (11 ∷ 16 ∷ 21 ∷ []) ∷ (11 ∷ 16 ∷ 41 ∷ []) ∷ []
+scaled : map (λ s. downWidth s ∷ upWidth s ∷ scaledHeight s ∷ []) (scaling 0 1 1 8 21 31 41 1 0 0 0 0 ∷ scaling 1 1 1 8 21 31 41 1 0 0 0 0 ∷ scaling 2 1 0 8 21 31 41 1 0 0 0 0 ∷ scaling 2 1 1 8 21 31 41 1 0 0 0 0 ∷ [])
+    ≡ (21 ∷ 31 ∷ 41 ∷ []) ∷ (11 ∷ 16 ∷ 21 ∷ []) ∷ (11 ∷ 16 ∷ 41 ∷ []) ∷ (11 ∷ 16 ∷ 21 ∷ []) ∷ []
 unfolding scaling opened
 scaled = refl
