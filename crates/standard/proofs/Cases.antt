@@ -107,6 +107,11 @@ refused-rows = refl
 sized : Frame → ℕ → ℕ → ℕ → Job
 sized f u d c = record { frame = f; units = replicate u (pos 0); deblocked = replicate d (pos 0); cdef = replicate c (pos 0) }
 
+-- the reader does not ask whether the counts fit the frame
+uneven-read : openAnswer (jobBytes (sized (frame 0 0 0 8 1 7 64 1) 3 8 7)) ≡ (0, record { frame = frame 0 0 0 8 1 7 64 1; units = 3; deblocked = 8; cdef = 7 })
+unfolding sized frame job-opened opened
+uneven-read = refl
+
 -- the bounds, each at its end and past it
 bounds : map no18 (sized (frame 0 0 0 8 128 8 64 1) 20 1024 1024 ∷ sized (frame 0 0 0 8 129 8 64 1) 0 0 0 ∷ sized (frame 0 0 0 8 128 9 64 1) 0 0 0 ∷
     sized (frame 0 0 0 8 1 1 64 1) 21 0 0 ∷ sized (frame 0 0 0 8 1 1 64 1) 0 1025 0 ∷ sized (frame 0 0 0 8 1 1 64 1) 0 0 1025 ∷ [])
