@@ -21,6 +21,8 @@ use Rattle.standard.specs.declared.Kind.the-variants.{None, Wiener, Self
 use Rattle.standard.specs.declared.Depth.the-variants.{Eight, Ten, Twelve}
 use Rattle.standard.specs.Depths.{bits, r0, r1, largest, offset, limit}
 use Rattle.standard.specs.SelfGuided.{sgr, scale}
+use Rattle.standard.specs.UpscaleFilter.{upTap}
+use Rattle.standard.specs.Superres.{step}
 use Rattle.standard.specs.Stripes.{stripeStartY, stripeEndY, rectangles, left, right, rectangle, block}
 use Rattle.standard.specs.Planes.{above, below, edges}
 use Rattle.standard.specs.Refusals.{first, scratchNeed, copyNeed, wide, planeTests, captureTests, countTests, rectangleTests, upscaleTests, sameShape, scalingShape, sampleTests}
@@ -282,6 +284,15 @@ upscaled-rows : upscaleOut (scaling 32 1) input (replicate 32 (pos 7)) ∷ upsca
     ≡ (map pos (0 ∷ 0 ∷ 0 ∷ 3 ∷ 4 ∷ 0 ∷ 0 ∷ 29 ∷ 99 ∷ 141 ∷ 137 ∷ 124 ∷ 125 ∷ 129 ∷ 129 ∷ 128 ∷ []) ++ replicate 16 (pos 9)) ∷ input ∷ replicate 3 (pos 7) ∷ []
 unfolding scaling input upscaleOut upscaledSlice upscaleTests sameShape scalingShape opened
 upscaled-rows = refl
+
+-- a step is rounded to the nearest: 11915 and 7 of 11, 14043 and 3 of 7. Outside its table a tap is 0
+steps : step 8 11 ∷ step 6 7 ∷ [] ≡ 11916 ∷ 14043 ∷ []
+unfolding opened
+steps = refl
+
+no-taps : upTap 64 3 ∷ upTap 0 8 ∷ [] ≡ pos 0 ∷ pos 0 ∷ []
+unfolding opened
+no-taps = refl
 
 -- two rows of 13 columns, of which four are read (recorded/upscale.rec)
 wide-rows : Scaling
