@@ -1,20 +1,12 @@
 -- Two runs that one loop writes, the second after the first: each turn stores a value in both.
-use mathlib.Core.Path.{_≡_, refl, _∙_, ap}
+use mathlib.Core.Path.{_≡_, refl, sym, _∙_, ap}
 use mathlib.Core.List.{List}
-use Prim.Native.Nat.{ℕ, zero, suc, _+_, _≤_, _<_}
+use Prim.Native.Nat.{ℕ, _+_, _≤_, _<_}
 use native.Mathlib.Omega.{arith}
 use lib.ListN.{length, getD, set}
-use lib.Seq.{set-comm}
-use Rattle.laws.specs.Runs.{stamp, stamp-more, stamp-length, stamp-outside}
+use Rattle.laws.specs.Runs.{stamp, stamp-set, stamp-more, stamp-length, stamp-outside}
 
 module _ {A : Type 0} where
-  -- a store before a run may as well come first
-  set-under : (g : ℕ → A) (at n : ℕ) (d : List A) (i : ℕ) (v : A) → i < at → set (stamp g at n d) i v ≡ stamp g at n (set d i v)
-  unfolding stamp
-  set-under g at zero d i v h = refl
-  set-under g at (suc n) d i v h =
-      set-comm (stamp g at n d) (at + n) i (g n) v (λ e. omega arith) ∙ ap (λ (l : List A). set l (at + n) (g n)) (set-under g at n d i v h)
-
   module _ (f g : ℕ → A) (to sq : ℕ) (d : List A) where
     abbrev pub pair : ℕ → List A
     pair n = stamp g sq n (stamp f to n d)
@@ -34,5 +26,5 @@ module _ {A : Type 0} where
     pub pair-more : (n : ℕ) (l : List A) (i j : ℕ) (v w : A) → l ≡ pair n → to + n < sq → i ≡ to + n → j ≡ sq + n → v ≡ f n → w ≡ g n → set (set l i v) j w ≡ pair (n + 1)
     pair-more n l i j v w e h p q a b =
         stamp-more g sq n (stamp f to (n + 1) d) (set l i v) w j
-        (ap (λ (s : List A). set s i v) e ∙ set-under g sq n (stamp f to n d) i v (omega arith) ∙ ap (stamp g sq n) (stamp-more f to n d (stamp f to n d) v i refl p a))
+        (ap (λ (s : List A). set s i v) e ∙ sym (stamp-set g sq n i v (stamp f to n d) (λ k r u. omega arith)) ∙ ap (stamp g sq n) (stamp-more f to n d (stamp f to n d) v i refl p a))
         q b

@@ -7,7 +7,7 @@ use native.Mathlib.Omega.{arith}
 use native.Mathlib.Nat.{not-suc-le-zero, eq-or-lt-of-le, le-of-suc-le-suc, zero-add, suc-add, add-zero, add-suc, add-assoc}
 use native.Mathlib.Numerals.{add-one}
 use lib.ListN.{length, getD, set, take, drop, length-set, length-take, length-drop}
-use lib.Seq.{getD-set-same, getD-set-other, set-append-left, length-take-le}
+use lib.Seq.{getD-set-same, getD-set-other, set-comm, set-append-left, length-take-le}
 use borrow.Rule.Slice.PartMut.{midOf, postOf, putMid, put-same}
 
 module _ {A : Type 0} where
@@ -44,6 +44,13 @@ module _ {A : Type 0} where
       (λ (e : k ≡ n). subst (λ (j : ℕ). getD (set (stamp f at n d) (at + n) (f n)) (at + j) z ≡ f j) (sym e) (getD-set-same (stamp f at n d) (at + n) (f n) z (omega (arith, stamp-length f at n d))))
       (λ (m : k < n). getD-set-other (stamp f at n d) (at + n) (at + k) (f n) z (λ e. omega arith) ∙ stamp-inside f at n d k z m (omega arith))
       (eq-or-lt-of-le (le-of-suc-le-suc l))
+
+  -- a store apart from a run may come before it or after it
+  pub stamp-set : (f : ℕ → A) (at n i : ℕ) (v : A) (d : List A) → ((k : ℕ) → k < n → i ≡ at + k → ⊥) → stamp f at n (set d i v) ≡ set (stamp f at n d) i v
+  unfolding stamp
+  stamp-set f at zero i v d h = refl
+  stamp-set f at (suc n) i v d h =
+      ap (λ (t : List A). set t (at + n) (f n)) (stamp-set f at n i v d (λ k p. h k (omega arith))) ∙ set-comm (stamp f at n d) i (at + n) v (f n) (h n (omega arith))
 
   -- the same values, the same run
   pub stamp-same : (f g : ℕ → A) (at n : ℕ) (d : List A) → ((k : ℕ) → k < n → f k ≡ g k) → stamp f at n d ≡ stamp g at n d

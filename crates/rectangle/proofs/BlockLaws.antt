@@ -1,29 +1,22 @@
 -- Two rectangles side by side are one: runs at places apart may be written in either order, so row by row the two parts join.
-use mathlib.Core.Path.{_≡_, refl, sym, _∙_, ap}
+use mathlib.Core.Path.{_≡_, refl, _∙_, ap}
 use mathlib.Core.List.{List}
 use Prim.Native.Nat.{ℕ, zero, suc, _+_, _*_, _-_, _<_, _≤_}
 use native.Mathlib.Omega.{arith}
 use lib.IntN.{ℤ}
 use lib.ListN.{set}
-use lib.Seq.{set-comm}
 use Rattle.laws.specs.Index.{row-le}
-use Rattle.laws.specs.Runs.{stamp, stamp-join}
+use Rattle.laws.specs.Runs.{stamp, stamp-set, stamp-join}
 use Rattle.laws.specs.Rows.{rows, rows-same}
 use Rattle.laws.specs.Paint.{paint}
 use Rattle.wiener.specs.Passes.{TapRows}
 
 module _ {A : Type 0} where
-  stamp-set : (f : ℕ → A) (at n i : ℕ) (v : A) (l : List A) → at + n ≤ i → stamp f at n (set l i v) ≡ set (stamp f at n l) i v
-  unfolding stamp
-  stamp-set f at zero i v l h = refl
-  stamp-set f at (suc n) i v l h =
-      ap (λ (t : List A). set t (at + n) (f n)) (stamp-set f at n i v l (omega arith)) ∙ sym (set-comm (stamp f at n l) (at + n) i (f n) v (λ e. omega arith))
-
   stamp-stamp : (f g : ℕ → A) (at n i m : ℕ) (l : List A) → at + n ≤ i → stamp f at n (stamp g i m l) ≡ stamp g i m (stamp f at n l)
   unfolding stamp
   stamp-stamp f g at n i zero l h = refl
   stamp-stamp f g at n i (suc m) l h =
-      stamp-set f at n (i + m) (g m) (stamp g i m l) (omega arith) ∙ ap (λ (t : List A). set t (i + m) (g m)) (stamp-stamp f g at n i m l h)
+      stamp-set f at n (i + m) (g m) (stamp g i m l) (λ k p e. omega arith) ∙ ap (λ (t : List A). set t (i + m) (g m)) (stamp-stamp f g at n i m l h)
 
   -- rows above a run
   rows-stamp : (f : ℕ → ℕ → A) (g : ℕ → A) (at st w n i m : ℕ) (l : List A) → ((k : ℕ) → k < n → at + k * st + w ≤ i) → rows f at st w n (stamp g i m l) ≡ stamp g i m (rows f at st w n l)
