@@ -1,4 +1,6 @@
 // The refusals of whole-plane restore: 1 to 5, 7, 10, 11, 15, 16, the lowest that applies.
+#![tactic(auto)]
+
 ghost use Rattle.std.specs.Prelude.{◌≡◌, false, not, ◌&&◌, ◌||◌, List, ℕ, ◌<◌, eqb, ltb, ℤ};
 ghost use Rattle.standard.specs.Answers.{of_stored};
 ghost use Rattle.standard.specs.Refusals.{count_tests, first, no1, no2, no3, no4, no10, no11, no15, plane_height, plane_tests, plane_width, samples, scratch_need, size5, sub_y_of};

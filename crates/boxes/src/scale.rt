@@ -6,7 +6,7 @@ ghost use Rattle.boxes.specs.Scales.{ScaleOf};
 use standard::Depth;
 
 // `top` is the least p whose z is 255. `ra`, `sa` round the sum of squares, `rb`, `sb` the sum.
-#[derive(Drop)]
+#[derive(Clone, Copy)]
 pub struct Scale {
     pub depth: Depth,
     pub eps: u32,

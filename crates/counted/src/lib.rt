@@ -1,4 +1,6 @@
 // How many samples restoration changed.
+#![tactic(auto)]
+
 ghost use Rattle.std.specs.Prelude.{◌≡◌, cond, ◌≤◌, pos, nat_abs, ◌≤ℤ◌, eqb, length, get_or};
 ghost use Rattle.counted.specs.Whole.{Whole};
 ghost use Rattle.standard.specs.Arithmetic.{sum};

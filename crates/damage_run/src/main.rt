@@ -1,5 +1,7 @@
 // Damage stays in its stripe: a small plane whose edge rows are captured, two stripes overwritten, all restored in an odd order with
 // refused calls between; then each stripe against the undamaged plane.
+#![tactic(auto)]
+
 mod picture; // picture.rt: the planes, the units and the damage
 mod lines; // lines.rt: what is printed
 mod figures; // figures.rt: counts and distances

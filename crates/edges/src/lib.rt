@@ -1,4 +1,6 @@
 // Edge rows: four rows of the deblocked plane for each boundary between stripes, captured before CDEF writes over them.
+#![tactic(auto)]
+
 pub mod tests; // tests.rt: the refusals of capture
 pub mod rows; // rows.rt: the rows of a boundary, captured and handed out
 

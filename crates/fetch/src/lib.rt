@@ -1,4 +1,6 @@
 // The fetch: one row of the plane as a stripe reads it, handed out of one of two lent slices, and windows gathered from such rows.
+#![tactic(auto)]
+
 ghost use Rattle.std.specs.Prelude.{◌≡◌, ◌+◌, ◌-◌, ◌*◌, ◌≤◌, ◌<◌, min, pos, length, get_or};
 ghost use Rattle.laws.specs.Runs.{stamp};
 ghost use Rattle.laws.specs.Rows.{rows};
@@ -11,7 +13,7 @@ use runs::{copy_run, repeat_run};
 
 // A stripe's rows: start .. stop of the plane; `inside` is the row of the first slice that holds row start; `over` and `under` are the
 // first of the two rows of the second slice that stand above and below the stripe.
-#[derive(Drop)]
+#[derive(Clone, Copy)]
 pub struct Source {
     pub start: usize,
     pub stop: usize,
@@ -102,7 +104,7 @@ fn lead(x0: usize) -> usize
 }
 
 // Three runs of a row: a columns left of the plane, b from `at` on, the rest right of it.
-#[derive(Drop)]
+#[derive(Clone, Copy)]
 pub struct Three {
     pub a: usize,
     pub at: usize,

@@ -1,4 +1,6 @@
 // What a call's frame numbers say: the first tests of the table, and the plane's extents.
+#![tactic(auto)]
+
 ghost use Rattle.std.specs.Prelude.{◌≡◌, ◌≤◌};
 ghost use Rattle.standard.specs.Refusals.{no1, no2, no3, no4, no5};
 ghost use Rattle.standard.specs.Refusals as refusals;

@@ -1,4 +1,6 @@
 // How many and where: the counts of a plane, its rectangles by index, its 4x4 luma blocks.
+#![tactic(auto)]
+
 pub mod stripes; // stripes.rt: the rows of a stripe, the stripe of a row
 pub mod units; // units.rt: units along an extent, the unit of a row and of a column
 pub mod places; // places.rt: a rectangle and a block of legal numbers

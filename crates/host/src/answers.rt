@@ -7,7 +7,7 @@ use frames::number;
 use standard::{Counted, Counts, Geometry, Placed, Restored, Stored};
 
 #[repr(C)]
-#[derive(Drop)]
+#[derive(Clone, Copy)]
 pub struct CountedNumbers {
     pub number: u32,
     pub unit_rows: u32,
@@ -17,7 +17,7 @@ pub struct CountedNumbers {
 }
 
 #[repr(C)]
-#[derive(Drop)]
+#[derive(Clone, Copy)]
 pub struct PlacedNumbers {
     pub number: u32,
     pub unit_row: u32,
@@ -33,7 +33,7 @@ pub struct PlacedNumbers {
 }
 
 #[repr(C)]
-#[derive(Drop)]
+#[derive(Clone, Copy)]
 pub struct RestoredNumbers {
     pub number: u32,
     pub changed: u32,

@@ -1,4 +1,6 @@
 // One stripe restored in place: its CDEF rows go to the lent copy, and it is restored from the copy and the captured edge rows.
+#![tactic(auto)]
+
 pub mod rows; // rows.rt: the copy, and the stripe's rows from it
 
 ghost use Rattle.std.specs.Prelude.{◌≡◌, length};

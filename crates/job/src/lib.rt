@@ -1,4 +1,6 @@
 // The reader of jobs: frame numbers, units and two planes out of bytes.
+#![tactic(auto)]
+
 pub mod entries; // entries.rt: one entry, and sections of entries
 pub mod form; // form.rt: the extra results 17 and 18
 

@@ -1,1 +1,2 @@
 // Laws of numbers, lists and row-major planes that the proofs above cite, in specs/. No code.
+#![tactic(auto)]

@@ -1,4 +1,6 @@
 // Round2 and the clips, and what belongs to the depth.
+#![tactic(auto)]
+
 ghost use Rattle.std.specs.Prelude.{◌≡◌, ◌≤◌, pos, nat_abs, ◌≤ℤ◌};
 ghost use Rattle.standard.specs.Arithmetic as arithmetic;
 ghost use Rattle.standard.specs.Depths as depths;

@@ -1,4 +1,6 @@
 // One rectangle restored by its unit, from a stripe's source.
+#![tactic(auto)]
+
 pub mod sharp; // sharp.rt: a block of a Wiener unit
 pub mod blocks; // blocks.rt: a rectangle of a Wiener unit, block by block
 pub mod plain; // plain.rt: a rectangle without a filter

@@ -1,4 +1,6 @@
 // Replays the recorded counts, rectangles and blocks of the reference, and prints how many records differ.
+#![tactic(auto)]
+
 mod entries; // entries.rt: the 16-bit entries of a record
 mod records; // records.rt: one record against the calls
 
@@ -7,7 +9,7 @@ ghost use Rattle.std.specs.Prelude.{◌*◌, ◌≤◌, length};
 use crate::records::{wrong_block, wrong_rectangle};
 use libc::STDOUT_FILENO;
 
-#[derive(Drop)]
+#[derive(Clone, Copy)]
 struct Tally {
     records: usize,
     wrong: usize,

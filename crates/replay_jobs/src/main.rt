@@ -1,6 +1,8 @@
 // Replays data/jobs.rec: jobs with what the reference, or document 01's number, answers. A record is its entry count, then the job's length
 // in bytes, its bytes two an entry, the number, and where that is 0 plane, width, height, stripes, `changed`, the restored plane after its
 // count, and the samples by which the in-place run differs; entries are 16 bits, low byte first.
+#![tactic(auto)]
+
 ghost use Rattle.std.specs.Prelude.{◌+◌, ◌*◌, ◌≤◌, ◌<◌, length};
 
 use job::entries::entry;
@@ -9,7 +11,7 @@ use standard::{JobRan, Report};
 use worked::refused::refused_number;
 use worked::run_job;
 
-#[derive(Drop)]
+#[derive(Clone, Copy)]
 pub struct Tally {
     pub records: u32,
     pub mismatches: u32,

@@ -1,12 +1,14 @@
 // Replays data/planes.rec: planes that the reference restored. A record is its entry count, then eight frame numbers, the units, the
 // deblocked, the CDEF and the restored plane, each after its own count, and `changed`; entries are 16 bits, low byte first.
+#![tactic(auto)]
+
 ghost use Rattle.std.specs.Prelude.{◌+◌, ◌*◌, ◌≤◌, ◌<◌, length};
 
 use libc::STDOUT_FILENO;
 use restoration::restore_plane;
 use standard::{Frame, Restored};
 
-#[derive(Drop)]
+#[derive(Clone, Copy)]
 pub struct Tally {
     pub records: u32,
     pub mismatches: u32,
@@ -152,7 +154,7 @@ fn compared<'a>(
 }
 
 // Where the four sections of a record begin, each after its count: units, deblocked, CDEF, restored.
-#[derive(Drop)]
+#[derive(Clone, Copy)]
 pub struct Parts {
     pub units: usize,
     pub samples: usize,

@@ -1,4 +1,6 @@
 // Replays recorded samples of the reference and of real decoders, and prints how many records differ.
+#![tactic(auto)]
+
 mod entries; // entries.rt: the 16-bit entries of a record
 
 ghost use Rattle.std.specs.Prelude.{◌+◌, ◌*◌, ◌≤◌, length};
@@ -7,7 +9,7 @@ use crate::entries::{entry, signed};
 use libc::STDOUT_FILENO;
 use sample::restore_sample;
 
-#[derive(Drop)]
+#[derive(Clone, Copy)]
 struct Tally {
     records: usize,
     wrong: usize,

@@ -96,7 +96,7 @@ fn compared<'a>(
 }
 
 // The counts of a record's sections; the plane after is as long as the plane before.
-#[derive(Drop)]
+#[derive(Clone, Copy)]
 pub struct Parts {
     pub units: usize,
     pub edges: usize,

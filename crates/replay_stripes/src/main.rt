@@ -1,11 +1,13 @@
 // Replays data/edges.rec and data/stripes.rec: edge rows that the reference captured, and stripes that it restored in place in some order.
+#![tactic(auto)]
+
 mod entries; // entries.rt: the 16-bit entries of a record
 mod captured; // captured.rt: edge rows against the capture
 mod in_order; // in_order.rt: stripes against the in-place call
 
 use libc::STDOUT_FILENO;
 
-#[derive(Drop)]
+#[derive(Clone, Copy)]
 pub struct Tally {
     pub records: u32,
     pub mismatches: u32,

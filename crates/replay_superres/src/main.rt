@@ -1,12 +1,14 @@
 // Replays data/upscale.rec: planes that the reference upscaled, or copied where nothing was asked. A record is its entry count, then
 // twelve frame numbers, the input and the output, each plane after its own count; entries are 16 bits, low byte first.
+#![tactic(auto)]
+
 ghost use Rattle.std.specs.Prelude.{◌+◌, ◌*◌, ◌≤◌, ◌<◌, length};
 
 use libc::STDOUT_FILENO;
 use standard::{Scaling, Stored};
 use superres::upscale_plane;
 
-#[derive(Drop)]
+#[derive(Clone, Copy)]
 pub struct Tally {
     pub records: u32,
     pub mismatches: u32,

@@ -1,5 +1,7 @@
 // The job program: reads a job from standard input, restores its plane, whole and in place, and prints the number that it is refused
 // with, or plane, width, height, stripes and changed samples, the restored rows, and by how many samples the in-place run differs.
+#![tactic(auto)]
+
 ghost use Rattle.std.specs.Prelude.{◌+◌, ◌*◌, ◌≤◌, pos, ◌≤ℤ◌, length};
 ghost use Rattle.counted.specs.Whole.{Whole};
 

@@ -1,4 +1,6 @@
 // Runs of samples: copied, repeated, and narrowed to 16 bits.
+#![tactic(auto)]
+
 ghost use Rattle.std.specs.Prelude.{◌≡◌, ◌+◌, ◌≤◌, ◌<◌, pos, nat_abs, length, get_or};
 ghost use Rattle.laws.specs.Runs.{stamp};
 ghost use Rattle.laws.specs.Bounds.{Sized};

@@ -1,4 +1,6 @@
 // One sample from ten numbers and the bytes of its window.
+#![tactic(auto)]
+
 pub mod bytes; // bytes.rt: the samples of the window
 pub mod tests; // tests.rt: the refusals
 pub mod filters; // filters.rt: the filter of each kind over one window

@@ -1,4 +1,6 @@
 // The self-guided filter over a gathered window.
+#![tactic(auto)]
+
 pub mod areas;
 pub mod filtered;
 pub mod last;

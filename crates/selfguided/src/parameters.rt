@@ -8,7 +8,7 @@ const SGR_PARAMS: [u32; 64] = [
     30, 0, 0, 2, 75, 0, 0,
 ];
 
-#[derive(Drop)]
+#[derive(Clone, Copy)]
 pub struct Params {
     pub r0: u32,
     pub eps0: u32,

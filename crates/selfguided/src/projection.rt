@@ -8,7 +8,7 @@ use numbers::{clip1, largest};
 use standard::{Depth, Weights};
 
 // The two weights, 128 less both, and the depth's largest sample.
-#[derive(Drop)]
+#[derive(Clone, Copy)]
 pub struct Mix {
     pub depth: Depth,
     pub w0: i32,

@@ -5,7 +5,7 @@ ghost use Rattle.selfguided.specs.Windows.{SpotsOf};
 use crate::areas::{cross_a, cross_b, six_a, six_b};
 
 // The 5-6-5 sums of a2 and b2, a2 and b2 of pass 1, and the samples themselves.
-#[derive(Drop)]
+#[derive(Clone, Copy)]
 pub struct Spots {
     pub sa: usize,
     pub sb: usize,

@@ -1,7 +1,8 @@
 // The types that definitions and code share. No code: the meaning is in specs/.
+#![tactic(auto)]
 
 // Bit depth 8, 10 or 12.
-#[derive(Drop)]
+#[derive(Clone, Copy)]
 pub enum Depth {
     Eight,
     Ten,
@@ -9,7 +10,7 @@ pub enum Depth {
 }
 
 // Three vertical, then three horizontal Wiener coefficients.
-#[derive(Drop)]
+#[derive(Clone, Copy)]
 pub struct Taps {
     pub v0: i32,
     pub v1: i32,
@@ -20,7 +21,7 @@ pub struct Taps {
 }
 
 // The set of a self-guided unit and its two weights.
-#[derive(Drop)]
+#[derive(Clone, Copy)]
 pub struct Weights {
     pub set: u32,
     pub w0: i32,
@@ -28,21 +29,21 @@ pub struct Weights {
 }
 
 // A kind carries only its own numbers.
-#[derive(Drop)]
+#[derive(Clone, Copy)]
 pub enum Kind {
     None,
     Wiener(Taps),
     SelfGuided(Weights),
 }
 
-#[derive(Drop)]
+#[derive(Clone, Copy)]
 pub struct Unit {
     pub kind: Kind,
 }
 
 // The numbers of one plane's restoration, in the job's order, as they come: nothing here is known to be legal.
 #[repr(C)]
-#[derive(Drop)]
+#[derive(Clone, Copy)]
 pub struct Frame {
     pub plane: u32,
     pub sub_x: u32,
@@ -56,7 +57,7 @@ pub struct Frame {
 
 // The numbers of one plane's upscaling, as they come. use_superres: 0 clear, else set.
 #[repr(C)]
-#[derive(Drop)]
+#[derive(Clone, Copy)]
 pub struct Scaling {
     pub plane: u32,
     pub sub_x: u32,
@@ -72,7 +73,7 @@ pub struct Scaling {
     pub out_cols: u32,
 }
 
-#[derive(Drop)]
+#[derive(Clone, Copy)]
 pub struct Counts {
     pub unit_rows: u32,
     pub unit_cols: u32,
@@ -81,7 +82,7 @@ pub struct Counts {
 }
 
 // One stripe's part of one unit column, or one 4x4 luma block: the unit it names, its place and size, its stripe and the plane's ends.
-#[derive(Drop)]
+#[derive(Clone, Copy)]
 pub struct Geometry {
     pub unit_row: u32,
     pub unit_col: u32,
@@ -96,7 +97,7 @@ pub struct Geometry {
 }
 
 // Why a call is refused: the sixteen numbers of the table, in its order.
-#[derive(Drop)]
+#[derive(Clone, Copy)]
 pub enum Refusal {
     BadDepth,
     BadPlane,
@@ -117,39 +118,39 @@ pub enum Refusal {
 }
 
 // The answer of whole-plane restore: `changed`, or the refusal.
-#[derive(Drop)]
+#[derive(Clone, Copy)]
 pub enum Restored {
     Done(u32),
     Refused(Refusal),
 }
 
 // The answer of a call whose result is in a lent slice alone: capture, one stripe in place, upscale.
-#[derive(Drop)]
+#[derive(Clone, Copy)]
 pub enum Stored {
     Done,
     Refused(Refusal),
 }
 
-#[derive(Drop)]
+#[derive(Clone, Copy)]
 pub enum Counted {
     Done(Counts),
     Refused(Refusal),
 }
 
-#[derive(Drop)]
+#[derive(Clone, Copy)]
 pub enum Placed {
     Done(Geometry),
     Refused(Refusal),
 }
 
-#[derive(Drop)]
+#[derive(Clone, Copy)]
 pub enum Sampled {
     Done(u32),
     Refused(Refusal),
 }
 
 // A job as it is read: its frame numbers, and how many entries its other sections have.
-#[derive(Drop)]
+#[derive(Clone, Copy)]
 pub struct Sections {
     pub frame: Frame,
     pub units: usize,
@@ -158,7 +159,7 @@ pub struct Sections {
 }
 
 // Why a job is refused: bytes that are no job, a bound of the job program, or a number of the table.
-#[derive(Drop)]
+#[derive(Clone, Copy)]
 pub enum JobRefusal {
     NoJob,
     OverBound,
@@ -166,14 +167,14 @@ pub enum JobRefusal {
 }
 
 // The answer of the reader of jobs.
-#[derive(Drop)]
+#[derive(Clone, Copy)]
 pub enum JobRead {
     Done(Sections),
     Refused(JobRefusal),
 }
 
 // What the job program prints of a job that is done, beside the restored rows.
-#[derive(Drop)]
+#[derive(Clone, Copy)]
 pub struct Report {
     pub plane: u32,
     pub width: u32,
@@ -183,7 +184,7 @@ pub struct Report {
     pub differs: u32,
 }
 
-#[derive(Drop)]
+#[derive(Clone, Copy)]
 pub enum JobRan {
     Done(Report),
     Refused(JobRefusal),

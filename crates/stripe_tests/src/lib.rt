@@ -1,4 +1,6 @@
 // The refusals of in-place restore of one stripe: 1 to 5, 7, 9 to 16, the lowest that applies.
+#![tactic(auto)]
+
 pub mod conditions; // conditions.rt: lengths and rooms, and what frame type 0 does not ask
 pub mod marks; // marks.rt: the marks
 pub mod rows; // rows.rt: the samples that a stripe reads

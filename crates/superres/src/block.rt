@@ -10,7 +10,7 @@ use super::row::{edged, least, settle, sums};
 use super::taps::{lay, table};
 
 // A plane's numbers: rows of `cols` samples in, of `width` out; `last` is the last column that is read.
-#[derive(Drop)]
+#[derive(Clone, Copy)]
 pub struct Plan {
     pub start: usize,
     pub step: usize,
@@ -22,7 +22,7 @@ pub struct Plan {
 }
 
 // n columns from x0 on, which read `need` samples from place q0 on.
-#[derive(Drop)]
+#[derive(Clone, Copy)]
 pub struct Part {
     pub x0: usize,
     pub n: usize,

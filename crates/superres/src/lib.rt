@@ -1,4 +1,6 @@
 // Superres: the plane upscaler.
+#![tactic(auto)]
+
 mod block;
 mod plan;
 mod positions;

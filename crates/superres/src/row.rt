@@ -9,7 +9,7 @@ use numbers::{clip1, round2};
 use runs::{narrow_run, repeat_narrow};
 
 // The three runs of a row's part: the first column `left` times, `mid` columns from `at` on, the last column `right` times.
-#[derive(Drop)]
+#[derive(Clone, Copy)]
 pub struct Runs {
     pub left: usize,
     pub at: usize,

@@ -1,4 +1,6 @@
 // A unit table: the legality of an entry and of the table, and from ten numbers to the unit and back.
+#![tactic(auto)]
+
 ghost use Rattle.std.specs.Prelude.{◌≡◌, ◌+◌, ◌*◌, ◌≤◌, ◌<◌, T, length};
 ghost use Rattle.standard.specs.declared.Kind.{Kind};
 ghost use Rattle.standard.specs.Units as units;

@@ -1,4 +1,6 @@
 // The Wiener filter over a window: the horizontal pass by rows into scratch, then the vertical pass.
+#![tactic(auto)]
+
 pub mod taps; // taps.rt: the taps of three coefficients, repeated along rows
 pub mod rounds; // rounds.rt: rounding and clip of a pass
 pub mod across; // across.rt: one row of the horizontal pass
@@ -6,7 +8,7 @@ pub mod down; // down.rt: one row of the vertical pass
 pub mod window; // window.rt: both passes over a window
 
 // What a pass does to a sum: add, shift right, clip.
-#[derive(Drop)]
+#[derive(Clone, Copy)]
 pub struct Rounding {
     pub add: i32,
     pub shift: u32,

@@ -1,4 +1,6 @@
 // One job worked: its plane restored whole, then once more in place, stripe by stripe, and the two compared.
+#![tactic(auto)]
+
 pub mod refused; // refused.rt: the number of a refused job
 pub mod report; // report.rt: the numbers that are printed of a plane
 pub mod stripes; // stripes.rt: the run in place
