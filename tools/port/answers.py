@@ -47,6 +47,8 @@ class Names:
         for it in (name, re.sub("^overflow-", "", name), re.sub("^nonzero-", "", name)):
             if it in self.needs:
                 return self.needs[it]
+        if re.sub("^slice-bounds-", "part-", name) in self.needs:
+            return self.needs[re.sub("^slice-bounds-", "part-", name)]
         ends = re.fullmatch(r"(slice-bounds|part)-(.*)-end(-\d+)?", name)
         if ends:
             for kind in ("slice-aggregate", "array-share-prefix"):
@@ -102,7 +104,7 @@ def last_let(text):
 def replaced(term, to):
     """Puts the variables' values in, but where a λ binds the name."""
     out, depth, bound = "", 0, []
-    for it in re.finditer(r"λ [^.]*\.|(?<![\w'.₀-])[\w'₀]+(?![\w'₀])|.|\n", term):
+    for it in re.finditer(r"λ [^.]*\.|(?<![\w'.₀-])[\w'₀]+(?![\w'₀])|[\w'.₀-]+|.|\n", term):
         word = it[0]
         if word.startswith("λ"):
             head = re.sub(r":[^()]*", lambda m: replaced(m[0], {k: v for k, v in to.items()}) , word)
@@ -436,6 +438,8 @@ def turn_file(path, names, own_ensures, module):
             text2 = f"pub {new} : goal.{new}\n"
             if unfolding:
                 text2 += unfolding + "\n"
+            # The condition of `if !x` is told of x itself.
+            term = re.sub(r"(?<![\w'])([\w']+\.if-not-[\w-]+\.(true|false))", lambda m: f"(not_from_{'false' if m[2] == 'true' else 'true'} _ {m[1]})", term)
             text2 += f"{new} {var} ={term}"
             kept.append((new, (note + "\n" if note else "") + text2))
             continue
@@ -492,6 +496,9 @@ def turn_file(path, names, own_ensures, module):
     if rest and has_answer:
         text2 = "\n\n".join(x.strip("\n") for x in rest)
         lines = needed(uses, text2)
+        tests = [it for it in ("not_from_false", "not_from_true") if it in text2]
+        if tests:
+            lines.append(f"use Rattle.std.proofs.lemmas.Bool.{{{', '.join(tests)}}}")
         if chosen:
             used = [it for it in chosen if re.search(rf"(?<![\w'.-]){re.escape(it)}(?![\w'-])", text2)]
             if used:

@@ -54,7 +54,9 @@ def main():
         words = [turned.get(w, f"goal.{w}") for w in words]
         text = open(path, encoding="utf-8").read()
         for place in lacking:
-            head = " ".join([f"lts.{place}", *words])
+            old = data[f"Rattle-{crate}-proofs.{function}.Lts"]["places"]
+            names = data[f"Rattle-{crate}-proofs.{function}.Lts"]["places_by_name"]
+            head = " ".join([f"lts.{old[names.index(place)][0]}", *words])
             text = re.sub(rf"goal\.{re.escape(place)}(?![\w'-])", head, text)
         module = f"Rattle.{crate}.proofs.{function}"
         uses = [f"use {module}.Lts as lts", f"use {module}.Reads as reads"] + [f"use {module}.Tie as tie"] * any("tie." in w for w in words)

@@ -14,7 +14,7 @@ use Rattle.fetch.proofs.Laws.{source_long}
 use Rattle.fetch.proofs.gather.Given as goal
 
 abbrev pub invariant-loop-k : goal.invariant-loop-k
-invariant-loop-k l = (l.k ≤ l.n) × (l.dst ≡ rows (λ k j. get_or (source_row l.inside l.beside l.w l.r (standard.l.neal.r l.h l.y0 k)) (standard.l.neal.r l.w l.x0 j) (pos 0)) 0 l.m l.m l.k l.initial.dst)
+invariant-loop-k l = (l.k ≤ l.n) × (l.dst ≡ rows (λ k j. get_or (source_row l.inside l.beside l.w l.r (standard.near l.h l.y0 k)) (standard.near l.w l.x0 j) (pos 0)) 0 l.m l.m l.k l.initial.dst)
 
 abbrev pub decreases-loop-k : goal.decreases-loop-k
 decreases-loop-k l = l.n - l.k

@@ -5,9 +5,11 @@ use lib.Signed.{yes_non_neg, pos-nat_abs}
 use mir.Facts.{to_z-of_z}
 use Rattle.laws.specs.ReadBack.{lt_yes, lt_no}
 use Rattle.standard.proofs.Arms.{clip_neg, clip_high, clip_mid}
+use Rattle.numbers.proofs.clip1.Lts as lts
+use Rattle.numbers.proofs.clip1.Reads as reads
 use Rattle.numbers.proofs.clip1.Goals as goal
 
-top_is : (s : goal.Start) → pos (nat_abs s.args.top) ≡ s.args.top
+top_is : (s : lts.Start reads.Pre reads.Post) → pos (nat_abs s.args.top) ≡ s.args.top
 top_is s = pos-nat_abs s.args.top (yes_non_neg s.requires)
 
 pub returns-then-x-lt0 : goal.returns-then-x-lt0

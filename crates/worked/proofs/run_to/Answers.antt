@@ -42,29 +42,17 @@ module _ (k : goal.In-Done) where
 pub read_job-t-requires : goal.read_job-t-requires
 read_job-t-requires c = tt
 
-part-work-start : tie.Need-slice-bounds-work-start
-part-work-start c = search rules
+pub slice_bounds-work-end : goal.slice_bounds-work-end
+slice_bounds-work-end c = let k = c.before in omega (arith, (found k).few_units, units_long k)
 
-part-work-end : tie.Need-slice-bounds-work-end
-part-work-end c = let k = c.before.before in omega (arith, (found k).few_units, units_long k)
+pub slice_bounds-work-end-in-Done : goal.slice_bounds-work-end-in-Done
+slice_bounds-work-end-in-Done c = let k = c.before.before in omega (arith, (found k).few_deblocked, deblocked_long k)
 
-part-work-start-2 : tie.Need-slice-bounds-work-start-2
-part-work-start-2 c = search rules
+pub slice_bounds-cdef-end : goal.slice_bounds-cdef-end
+slice_bounds-cdef-end c = let k = c.before.before.before in omega (arith, (found k).few_cdef, cdef_long k)
 
-part-work-end-2 : tie.Need-slice-bounds-work-end-2
-part-work-end-2 c = let k = c.before.before.before.before in omega (arith, (found k).few_deblocked, deblocked_long k)
-
-part-cdef-start : tie.Need-slice-bounds-cdef-start
-part-cdef-start c = search rules
-
-part-cdef-end : tie.Need-slice-bounds-cdef-end
-part-cdef-end c = let k = c.before.before.before.before.before in omega (arith, (found k).few_cdef, cdef_long k)
-
-part-work-start-3 : tie.Need-slice-bounds-work-start-3
-part-work-start-3 c = search rules
-
-part-work-end-3 : tie.Need-slice-bounds-work-end-3
-part-work-end-3 c = let k = c.before.before.before.before.before.before in omega (arith, (found k).few_cdef, (start k).requires)
+pub slice_bounds-work-end-in-Done-2 : goal.slice_bounds-work-end-in-Done-2
+slice_bounds-work-end-in-Done-2 c = let k = c.before.before.before.before in omega (arith, (found k).few_cdef, (start k).requires)
 
 pub work-requires : goal.work-requires
 work-requires c = let k = c.before.before.before.before.before in let f = found k in

@@ -16,12 +16,6 @@ room c = let a = c in omega (arith, boundary_room a.args.w a.args.s (defined.str
 pub overflow_sub-stripes : goal.overflow_sub-stripes
 overflow_sub-stripes c = omega (arith, c.stripes.ensures, some_stripe c.args.sub_y c.args.h)
 
-part-result-start : tie.Need-slice-bounds-result-start
-part-result-start c = search rules
-
-part-result-end : tie.Need-slice-bounds-result-end
-part-result-end c = search rules
-
 pub returns-then-stripes-s : goal.returns-then-stripes-s
 unfolding planes.below
 returns-then-stripes-s c = let a = c.args in rw (le-ltb (suc a.s) (defined.stripes a.sub_y a.h) (omega (arith, c.stripes.ensures)))
@@ -38,11 +32,8 @@ overflow_add-e c = omega (arith, room c)
 pub offset_bounds-edges-a : goal.offset_bounds-edges-a
 offset_bounds-edges-a c = omega (arith, room c)
 
-part-result-start-2 : tie.Need-slice-bounds-result-start-2
-part-result-start-2 c = search rules
-
-part-result-end-2 : tie.Need-slice-bounds-result-end-2
-part-result-end-2 c = omega (arith, room c)
+pub slice_bounds-result-end-2 : goal.slice_bounds-result-end-2
+slice_bounds-result-end-2 c = omega (arith, room c)
 
 pub returns : goal.returns
 unfolding planes.below

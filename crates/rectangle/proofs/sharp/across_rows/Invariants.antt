@@ -18,7 +18,7 @@ use Rattle.rectangle.proofs.SharpLaws.{handed_value}
 use Rattle.rectangle.proofs.sharp.across_rows.Given as goal
 
 abbrev pub invariant-loop-k : goal.invariant-loop-k
-invariant-loop-k l = (l.k ≤ l.n) × (l.s ≡ rows (λ k x. biased l.d (across l.d l.t (λ _ b. source_cell l.inside l.beside l.w l.r (standard.l.neal.r l.h l.y0 k) (standard.l.neal.r l.w l.x0 (x + b))) 0)) 0 l.rw l.rw l.k l.initial.s)
+invariant-loop-k l = (l.k ≤ l.n) × (l.s ≡ rows (λ k x. biased l.d (across l.d l.t (λ _ b. source_cell l.inside l.beside l.w l.r (standard.near l.h l.y0 k) (standard.near l.w l.x0 (x + b))) 0)) 0 l.rw l.rw l.k l.initial.s)
 
 abbrev pub decreases-loop-k : goal.decreases-loop-k
 decreases-loop-k l = l.n - l.k

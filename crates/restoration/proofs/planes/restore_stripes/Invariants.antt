@@ -21,7 +21,7 @@ use borrow.Author.Rules.{rules}
 use Rattle.restoration.proofs.planes.restore_stripes.Given as goal
 
 abbrev pub invariant-loop-at : goal.invariant-loop-at
-invariant-loop-at l = (l.at ≤ l.n) × (length l.s ≡ length l.initial.s) × Painted (index_of (sub_y_of l.f) l.f.ul.nit_l.size (plane_width l.f)) (plane_width l.f) (plane_height l.f) (λ y x. pos (restored_at (shape_of l.f l.table) (grid (plane_width l.f) l.deblocked) (grid (plane_width l.f) l.cdef) y x)) (pos 0) 0 (l.at * defined.ul.nitl.s (plane_width l.f) l.f.ul.nit_l.size) l.initial.out l.out
+invariant-loop-at l = (l.at ≤ l.n) × (length l.s ≡ length l.initial.s) × Painted (index_of (sub_y_of l.f) l.f.unit_size (plane_width l.f)) (plane_width l.f) (plane_height l.f) (λ y x. pos (restored_at (shape_of l.f l.table) (grid (plane_width l.f) l.deblocked) (grid (plane_width l.f) l.cdef) y x)) (pos 0) 0 (l.at * defined.units (plane_width l.f) l.f.unit_size) l.initial.out l.out
 
 abbrev pub decreases-loop-at : goal.decreases-loop-at
 decreases-loop-at l = l.n - l.at

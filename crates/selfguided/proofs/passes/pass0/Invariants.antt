@@ -13,7 +13,7 @@ use Rattle.selfguided.proofs.WindowLaws.{at_places, of_places, places_small}
 use Rattle.selfguided.proofs.passes.pass0.Given as goal
 
 abbrev pub invariant-loop-k : goal.invariant-loop-k
-invariant-loop-k l = (l.k ≤ counted l.h l.odd) × Sixed l.z.deptl.h l.z.epl.s l.w l.h l.odd l.k l.initial.s l.s
+invariant-loop-k l = (l.k ≤ counted l.h l.odd) × Sixed l.z.depth l.z.eps l.w l.h l.odd l.k l.initial.s l.s
 
 abbrev pub decreases-loop-k : goal.decreases-loop-k
 decreases-loop-k l = counted l.h l.odd - l.k

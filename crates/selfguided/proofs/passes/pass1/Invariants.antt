@@ -14,7 +14,7 @@ use Rattle.selfguided.proofs.WindowLaws.{at_places, of_places, places_small}
 use Rattle.selfguided.proofs.passes.pass1.Given as goal
 
 abbrev pub invariant-loop-y : goal.invariant-loop-y
-invariant-loop-y l = (l.y ≤ l.h + 2) × Crossed l.z.deptl.h l.z.epl.s l.w l.h l.y l.initial.s l.s
+invariant-loop-y l = (l.y ≤ l.h + 2) × Crossed l.z.depth l.z.eps l.w l.h l.y l.initial.s l.s
 
 abbrev pub decreases-loop-y : goal.decreases-loop-y
 decreases-loop-y l = l.h + 2 - l.y

@@ -67,11 +67,8 @@ overflow_add-e c = omega (arith, fits c)
 pub offset_bounds-plane-a : goal.offset_bounds-plane-a
 offset_bounds-plane-a c = omega (arith, fits c)
 
-part-result-start : tie.Need-slice-bounds-result-start
-part-result-start c = search rules
-
-part-result-end : tie.Need-slice-bounds-result-end
-part-result-end c = omega (arith, fits c)
+pub slice_bounds-result-end : goal.slice_bounds-result-end
+slice_bounds-result-end c = omega (arith, fits c)
 
 pub returns : goal.returns
 returns c = let k = c.before in own_part (origin k).args.f (origin k).args.plane.now (origin k).args.s _ _ _ (wide_is k) (start_is k) (stop_is k)

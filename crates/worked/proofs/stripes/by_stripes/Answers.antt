@@ -63,17 +63,11 @@ overflow_sub-e c = omega (arith, many c, some_stripe (sub_y_of (start c).args.f)
 pub overflow_mul-e-2 : goal.overflow_mul-e-2
 overflow_mul-e-2 c = omega (arith, room c)
 
-part-edges-start : tie.Need-slice-bounds-edges-start
-part-edges-start c = search rules
+pub slice_bounds-edges-end : goal.slice_bounds-edges-end
+slice_bounds-edges-end c = omega (arith, room c.before.before)
 
-part-edges-end : tie.Need-slice-bounds-edges-end
-part-edges-end c = omega (arith, room c.before.before)
-
-part-marks-start : tie.Need-slice-bounds-marks-start
-part-marks-start c = search rules
-
-part-marks-end : tie.Need-slice-bounds-marks-end
-part-marks-end c = omega (arith, few c.before.before.before)
+pub slice_bounds-marks-end : goal.slice_bounds-marks-end
+slice_bounds-marks-end c = omega (arith, few c.before.before.before)
 
 pub captured_run-requires : goal.captured_run-requires
 captured_run-requires c = let k = c.before.before.before.before.before in
