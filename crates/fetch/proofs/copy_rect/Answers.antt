@@ -7,9 +7,12 @@ use lib.ListN.{length, get_or}
 use lib.IntN.{pos}
 use Rattle.laws.specs.Index.{row_le}
 use Rattle.laws.specs.Rows.{rows, rows_none, rows_more, rows_length}
+use Rattle.fetch.proofs.copy_rect.Lts as lts
+use Rattle.fetch.proofs.copy_rect.Reads as reads
+use Rattle.fetch.proofs.copy_rect.Tie as tie
 use Rattle.fetch.proofs.copy_rect.Goals as goal
 
-module _ (c : goal.In-loop-y) where
+module _ (c : lts.In-loop tie.the-claims reads.Pre reads.Post goal.the-invariant-loop-y goal.the-decreases-loop-y tie.handed_clauses) where
   abbrev a : goal.Start
   a = c.before.before
 

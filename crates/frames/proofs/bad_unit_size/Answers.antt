@@ -1,8 +1,10 @@
 -- Number 5: each return is the condition where earlier tests have answered.
 use Rattle.frames.proofs.Conditions.{size_64, size_128, size_256, Other, size_other, size_luma, size_wide, size_small}
+use Rattle.frames.proofs.bad_unit_size.Lts as lts
+use Rattle.frames.proofs.bad_unit_size.Reads as reads
 use Rattle.frames.proofs.bad_unit_size.Goals as goal
 
-other : (c : goal.Else-size-eq256) → Other c.args.size
+other : (c : lts.Else3 reads.Pre reads.Post) → Other c.args.size
 other c = record { not_64 = c.if-size-eq64.false; not_128 = c.if-size-eq128.false; not_256 = c.if-size-eq256.false }
 
 pub returns-then-size-eq64 : goal.returns-then-size-eq64

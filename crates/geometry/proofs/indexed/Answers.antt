@@ -10,9 +10,12 @@ use Rattle.standard.specs.Calls.{counts_of}
 use Rattle.standard.specs.Stripes.{rectangles}
 use Rattle.standard.specs.Refusals.{sub_y_of, plane_height, plane_width}
 use borrow.Author.Rules.{rules}
+use Rattle.geometry.proofs.indexed.Lts as lts
+use Rattle.geometry.proofs.indexed.Reads as reads
+use Rattle.geometry.proofs.indexed.Tie as tie
 use Rattle.geometry.proofs.indexed.Goals as goal
 
-all : (c : goal.After-counts-c) → let f = c.args.f in c.counts-c.result.rectangles ≡ rectangles (sub_y_of f) f.unit_size (plane_height f) (plane_width f)
+all : (c : lts.After-counts tie.the-claims reads.Pre reads.Post tie.handed_clauses) → let f = c.args.f in c.counts-c.result.rectangles ≡ rectangles (sub_y_of f) f.unit_size (plane_height f) (plane_width f)
 unfolding counts_of
 all c = ap (λ k. k.rectangles) c.counts-c.ensures
 

@@ -6,10 +6,12 @@ use Rattle.standard.proofs.Answers.{job_refused}
 use Rattle.standard.specs.Job.{open_answer}
 use Rattle.job.proofs.Laws.{Found, found_in, room_refused, units_laid, deblocked_laid, cdef_laid}
 use borrow.Author.Rules.{rules}
+use Rattle.job.proofs.read_job.Lts as lts
+use Rattle.job.proofs.read_job.Reads as reads
 use Rattle.job.proofs.read_job.Goals as goal
 
-module _ (k : goal.In-Done) where
-  abbrev start : goal.Start
+module _ (k : lts.After-known_told2) where
+  abbrev start : lts.Start
   start = k.before.before.before.before.before
 
   answer : of_job_read k.form-t.result ≡ open_answer start.args.bytes.now

@@ -8,9 +8,12 @@ use Rattle.laws.specs.Bounds.{samples_part, samples_same}
 use Rattle.laws.specs.Runs.{stamp, stamp_none, stamp_next, stamp_length, stamp_before}
 use Rattle.standard.specs.SelfGuided.{a2_of}
 use Rattle.boxes.specs.Reads.{sample_at}
+use Rattle.boxes.proofs.rows.a2_fours.Lts as lts
+use Rattle.boxes.proofs.rows.a2_fours.Reads as reads
+use Rattle.boxes.proofs.rows.a2_fours.Tie as tie
 use Rattle.boxes.proofs.rows.a2_fours.Goals as goal
 
-module _ (c : goal.In-loop-j) where
+module _ (c : lts.In-loop tie.the-claims reads.Pre reads.Post goal.the-invariant-loop-j goal.the-decreases-loop-j) where
   abbrev a : goal.Start
   a = c.before.before
 

@@ -9,10 +9,13 @@ use Rattle.laws.specs.Runs.{stamp, stamp_next, stamp_length, stamp_before}
 use Rattle.standard.specs.SelfGuided.{a2_of}
 use Rattle.boxes.specs.Reads.{sample_at}
 use borrow.Author.Rules.{rules}
+use Rattle.boxes.proofs.rows.a2_row.Lts as lts
+use Rattle.boxes.proofs.rows.a2_row.Reads as reads
+use Rattle.boxes.proofs.rows.a2_row.Tie as tie
 use Rattle.boxes.proofs.rows.a2_row.Goals as goal
 
-module _ (c : goal.After-a2_fours) where
-  abbrev a : goal.Start
+module _ (c : lts.After-a2_fours tie.the-claims reads.Pre reads.Post) where
+  abbrev a : lts.Start tie.the-claims reads.Pre reads.Post
   a = c.before.before
 
   kept : (k : ℕ) → k < a.args.to → get_or c.a2_fours.new.0 k (pos 0) ≡ get_or a.args.s.now k (pos 0)

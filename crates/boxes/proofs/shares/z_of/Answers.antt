@@ -4,16 +4,19 @@ use mathlib.Core.Path.{◌∙◌, ap}
 use native.Mathlib.Omega.{arith}
 use native.Mathlib.Nat.{mul-le-mul, div-le_self}
 use Rattle.boxes.proofs.ScaleLaws.{largest_most, bits_most, rb_small, ra_small, sum_low, squares_rounded, sum_down, squares_down, cut_high, z_is}
+use Rattle.boxes.proofs.shares.z_of.Lts as lts
+use Rattle.boxes.proofs.shares.z_of.Reads as reads
+use Rattle.boxes.proofs.shares.z_of.Tie as tie
 use Rattle.boxes.proofs.shares.z_of.Goals as goal
 
-b_small : (s : goal.Start) → s.args.b ≤ 102375
+b_small : (s : lts.Start tie.the-claims reads.Pre reads.Post) → s.args.b ≤ 102375
 b_small s = omega (arith, s.requires.2, largest_most s.args.z.depth)
 
-a_small : (s : goal.Start) → s.args.a ≤ 419225625
+a_small : (s : lts.Start tie.the-claims reads.Pre reads.Post) → s.args.a ≤ 419225625
 a_small s = omega (arith, s.requires.1, let h = largest_most s.args.z.depth in mul-le-mul h h)
 
 module _ (c : goal.After-struct_known-4-1) where
-  abbrev s : goal.Start
+  abbrev s : lts.Start tie.the-claims reads.Pre reads.Post
   s = c.before.before.before.before
 
   first : (s.args.a + s.args.z.ra) / 2 ^ s.args.z.sa * s.args.n ≤ 40940000
@@ -28,7 +31,7 @@ module _ (c : goal.After-struct_known-4-1) where
   top_small : s.args.z.top ≤ 266875826
   top_small = omega (arith, s.requires.3.top_is, s.requires.3.s_low, s.requires.3.s_high, div-le_self (266862592 + s.args.z.s - 1) s.args.z.s)
 
-product : (c : goal.After-least) → c.least.result * c.args.z.s ≤ 266875826
+product : (c : lts.After-least tie.the-claims reads.Pre reads.Post) → c.least.result * c.args.z.s ≤ 266875826
 product c =
     let s = c in
     omega (arith, ap (λ (m : ℕ). m * s.args.z.s) c.least.ensures, cut_high s.args.z.s s.args.z.top s.requires.3.s_low s.requires.3.s_high s.requires.3.top_is c.excess-p.result)

@@ -5,9 +5,12 @@ use Rattle.geometry.proofs.Tests.{gives_2, gives_4, gives_4_wide, gives_5, gives
 use Rattle.standard.specs.Answers.{refusal_number}
 use Rattle.standard.specs.Refusals.{no2, no4, no5}
 use borrow.Author.Rules.{rules}
+use Rattle.geometry.proofs.planes.tested.Lts as lts
+use Rattle.geometry.proofs.planes.tested.Reads as reads
+use Rattle.geometry.proofs.planes.tested.Tie as tie
 use Rattle.geometry.proofs.planes.tested.Goals as goal
 
-module _ (k : goal.After-bad_unit_size-size) {b : Bool} where
+module _ (k : lts.After-bad_unit_size tie.the-claims reads.Pre reads.Post) {b : Bool} where
   is_2 : k.bad_plane-plane.result ≡ b → let f = k.args.f in no2 f.plane f.sub_x f.sub_y ≡ b
   is_2 e = sym k.bad_plane-plane.ensures ∙ e
 

@@ -8,10 +8,12 @@ use Rattle.standard.specs.Refusals.{wide}
 use Rattle.standard.specs.Job.{unit_count, deblocked_count, cdef_count, sections_of}
 use Rattle.job.proofs.Laws.{other_frame, other_count, counts_done}
 use borrow.Author.Rules.{rules}
+use Rattle.job.proofs.form.counted.Lts as lts
+use Rattle.job.proofs.form.counted.Reads as reads
 use Rattle.job.proofs.form.counted.Goals as goal
 
 module _ (k : goal.After-entry-u) where
-  abbrev start : goal.Start
+  abbrev start : lts.Start
   start = k.before.before.before.before.before
 
   units_are : k.entry-u.result ≡ unit_count start.args.bytes.now

@@ -7,9 +7,12 @@ use Rattle.wiener.proofs.TapLaws.{small_horizontal, narrow_rows}
 use Rattle.wiener.proofs.SumLaws.{halves_part}
 use Rattle.wiener.proofs.PassLaws.{AcrossNumbers, across_mild, across_value, samples_halves}
 use borrow.Author.Rules.{rules}
+use Rattle.wiener.proofs.across.across_row.Lts as lts
+use Rattle.wiener.proofs.across.across_row.Reads as reads
+use Rattle.wiener.proofs.across.across_row.Tie as tie
 use Rattle.wiener.proofs.across.across_row.Goals as goal
 
-numbers : (c : goal.After-across_rounding-a) → AcrossNumbers c.args.d c.across_rounding-a.result
+numbers : (c : lts.After-across_rounding tie.the-claims reads.Pre reads.Post tie.handed_clauses) → AcrossNumbers c.args.d c.across_rounding-a.result
 numbers c = record { add_is = c.across_rounding-a.ensures.add_value.0; shift_is = c.across_rounding-a.ensures.add_value.1; low_is = c.across_rounding-a.ensures.low_value.0; high_is = c.across_rounding-a.ensures.low_value.1 }
 
 pub across_values-requires : goal.across_values-requires

@@ -7,9 +7,12 @@ use Rattle.wiener.proofs.TapLaws.{small_vertical, narrow_rows}
 use Rattle.wiener.proofs.SumLaws.{halves_part}
 use Rattle.wiener.proofs.PassLaws.{DownNumbers, down_mild, down_value}
 use borrow.Author.Rules.{rules}
+use Rattle.wiener.proofs.down.down_row.Lts as lts
+use Rattle.wiener.proofs.down.down_row.Reads as reads
+use Rattle.wiener.proofs.down.down_row.Tie as tie
 use Rattle.wiener.proofs.down.down_row.Goals as goal
 
-numbers : (c : goal.After-down_rounding-a) → DownNumbers c.args.d c.down_rounding-a.result
+numbers : (c : lts.After-down_rounding tie.the-claims reads.Pre reads.Post tie.handed_clauses) → DownNumbers c.args.d c.down_rounding-a.result
 numbers c = record { add_is = c.down_rounding-a.ensures.add_value.0; shift_is = c.down_rounding-a.ensures.add_value.1; low_is = c.down_rounding-a.ensures.low_value.0; high_is = c.down_rounding-a.ensures.low_value.1 }
 
 pub down_values-requires : goal.down_values-requires

@@ -13,22 +13,25 @@ use Rattle.laws.specs.Sizes.{abs_mag}
 use Rattle.wiener.specs.Passes.{settled}
 use Rattle.wiener.proofs.PassLaws.{clip_ends}
 use borrow.Author.Rules.{rules}
+use Rattle.wiener.proofs.rounds.settle.Lts as lts
+use Rattle.wiener.proofs.rounds.settle.Reads as reads
+use Rattle.wiener.proofs.rounds.settle.Tie as tie
 use Rattle.wiener.proofs.rounds.settle.Goals as goal
 
 size : (z : ℤ) → mag z < 32768 → nat_abs z ≤ 32768
 size z h = omega (arith, abs_mag z)
 
 -- z + add, shifted; and the two ends
-abbrev raised : goal.Start → Expression
+abbrev raised : lts.Start tie.the-claims reads.Pre reads.Post tie.handed_clauses → Expression
 raised s = Var s.args.z 16777216 s.requires.z_bound ⊕ Var s.args.a.add 16777216 s.requires.mild.add_size
 
-abbrev shifted : goal.Start → Expression
+abbrev shifted : lts.Start tie.the-claims reads.Pre reads.Post tie.handed_clauses → Expression
 shifted s = ShrBy (raised s) s.args.a.shift
 
-abbrev low : goal.Start → Expression
+abbrev low : lts.Start tie.the-claims reads.Pre reads.Post tie.handed_clauses → Expression
 low s = Var s.args.a.low 32768 (size s.args.a.low s.requires.mild.low_size)
 
-abbrev high : goal.Start → Expression
+abbrev high : lts.Start tie.the-claims reads.Pre reads.Post tie.handed_clauses → Expression
 high s = Var s.args.a.high 32768 (size s.args.a.high s.requires.mild.high_size)
 
 pub overflow_add-z : goal.overflow_add-z

@@ -8,9 +8,12 @@ use Rattle.laws.specs.Index.{row_le}
 use Rattle.laws.specs.Rows.{rows, rows_none, rows_more, rows_length}
 use Rattle.wiener.specs.Passes.{down_at}
 use Rattle.wiener.proofs.SumLaws.{halves_part}
+use Rattle.wiener.proofs.window.down_window.Lts as lts
+use Rattle.wiener.proofs.window.down_window.Reads as reads
+use Rattle.wiener.proofs.window.down_window.Tie as tie
 use Rattle.wiener.proofs.window.down_window.Goals as goal
 
-module _ (c : goal.In-loop-i) where
+module _ (c : lts.In-loop tie.the-claims reads.Pre reads.Post goal.the-invariant-loop-i goal.the-decreases-loop-i tie.handed_clauses) where
   abbrev a : goal.Start
   a = c.before.before
 
