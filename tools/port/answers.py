@@ -315,6 +315,7 @@ def record(fields, body, turn, name):
         parts.append(both[0].strip())
         rest = both[1] if len(both) == 2 else "(" + ",".join(both[1:]) + ")"
     parts.append(rest.strip())
+    lets = re.sub(r"\n(?=\S)", "\n    ", lets.rstrip() + " " if lets else "")
     return f"{lets}record {{ " + "; ".join(f"{f} = {p}" for f, p in zip(fields, parts)) + " }"
 
 
@@ -368,7 +369,7 @@ def turn_file(path, names, own_ensures, module):
             if it:
                 turn.params[name] = names.index.get(norm(it[2] or it[3]))
     turn.params = {k: v for k, v in turn.params.items() if v}
-    kept = []
+    kept, renamed = [], {}
     inv_names = set()
     for name, marks, lines in whole:
         body = "\n".join(lines)
@@ -418,10 +419,10 @@ def turn_file(path, names, own_ensures, module):
             before = body[:definition.start()]
             unfolding = "\n".join(x for x in before.split("\n") if x.startswith("unfolding"))
             note = "\n".join(x for x in before.split("\n") if x.startswith("--"))
-            if term.strip() in TRIVIAL and not unfolding:
+            others = "\n".join("\n".join(x) for n, _, x in whole if n != name and not (n and n.endswith(("-spec", "_spec"))))
+            if term.strip() in TRIVIAL and not unfolding and not re.search(rf"(?<![\w'.-]){re.escape(name)}(?![\w'-])", others):
                 continue
-            if term.strip() in TRIVIAL and term.strip() != "search rules" and not unfolding:
-                continue
+            renamed[name] = new
             place = names.at[new]
             where = re.search(r"(?m)^  where$", term)
             term = turn.paths(term, {var: place})
@@ -485,6 +486,9 @@ def turn_file(path, names, own_ensures, module):
         if name in chosen:
             moved.append(re.sub(r"(?m)^(abbrev |unfoldable )?(?=" + re.escape(name) + r" (?:\{.*\} )?:)", lambda m: (m[1] or "") + "pub ", body, count=1))
     rest = [body for name, body in kept if name not in chosen]
+    for old, new in renamed.items():
+        if old != new:
+            rest = [re.sub(rf"(?<![\w'.-]){re.escape(old)}(?![\w'-])", new, it) if re.search(rf"(?<![\w'.-]){re.escape(old)}(?![\w'-])", it) and not it.startswith(f"pub {old} ") else it for it in rest]
     folder = os.path.dirname(path)
     head_text = "\n".join(head) + "\n" if head else ""
     needed = lambda lines, text: [it for it in lines if wanted(it, text)]

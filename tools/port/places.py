@@ -21,8 +21,19 @@ def main():
     for path in sorted(glob.glob(f"crates/{crate}/proofs/**/Answers.antt", recursive=True)):
         function = os.path.relpath(os.path.dirname(path), f"crates/{crate}/proofs").replace("/", ".")
         it = data[f"Rattle-{crate}-proofs.{function}.Lts"]
-        stands = {new for _, new in it["asked_at"]}
         text = open(path, encoding="utf-8").read()
+        at = dict(zip((new for _, new in it["needs"]), (new for _, new in it["asked_at"])))
+        answered = set(re.findall(r"(?m)^pub (\S+) : goal\.", text))
+        stands = {at[w] for w in answered if w in at}
+        # A goal that stands there and that the check finds alone is answered so, which brings its place.
+        for place in {w for w in re.findall(r"goal\.([\w'-]+)", text) if w in it["places_by_name"] and w not in stands}:
+            goals = [w for w in at if at[w] == place and w not in answered and w not in it["settled"]]
+            if goals:
+                text = text.rstrip("\n") + f"\n\npub {goals[0]} : goal.{goals[0]}\n{goals[0]} c = search rules\n"
+                if ".{rules}" not in text:
+                    text = re.sub(r"(?m)^(use .* as goal)$", r"use borrow.Author.Rules.{rules}\n\1", text, count=1)
+                stands.add(place)
+        open(path, "w", encoding="utf-8").write(text)
         lacking = {w for w in re.findall(r"goal\.([\w'-]+)", text) if w in it["places_by_name"] and w not in stands}
         if lacking:
             todo[function] = path, lacking

@@ -39,9 +39,7 @@ pub unsigned_section-requires-in-Done : goal.unsigned_section-requires-in-Done
 unsigned_section-requires-in-Done c = let f = found c.before.before.before.before.before in (omega (arith, f.few_cdef), omega (arith, f.long))
 
 pub returns-in-Refused : goal.returns-in-Refused
-returns-in-Refused c = let q = sym (ap of_job_read c.in-Refused.is) ∙ c.form-t.ensures in let n = job_refused c.in-Refused.why in
-record { result_value = q; units_after = room_refused _ _ n q _ _; deblocked_after = room_refused _ _ n q _ _; cdef_after = room_refused _ _ n q _ _ }
+returns-in-Refused c = let q = sym (ap of_job_read c.in-Refused.is) ∙ c.form-t.ensures in let n = job_refused c.in-Refused.why in record { result_value = q; units_after = room_refused _ _ n q _ _; deblocked_after = room_refused _ _ n q _ _; cdef_after = room_refused _ _ n q _ _ }
 
 pub returns-in-Done : goal.returns-in-Done
-returns-in-Done c = let u = c in let k = u.before.before.before.before.before.before in let f = found k in
-record { result_value = sym (ap of_job_read k.in-Done.is) ∙ answer k; units_after = units_laid _ _ f _ _ (omega (arith, u.signed_section-arg-1.given)) u.signed_section.ensures; deblocked_after = deblocked_laid _ _ f _ _ (omega (arith, c.unsigned_section-arg-1.given)) c.unsigned_section.ensures; cdef_after = cdef_laid _ _ f _ _ (omega (arith, c.unsigned_section-arg-in-Done-1.given)) c.unsigned_section-in-Done.ensures }
+returns-in-Done c = let u = c in let k = u.before.before.before.before.before.before in let f = found k in record { result_value = sym (ap of_job_read k.in-Done.is) ∙ answer k; units_after = units_laid _ _ f _ _ (omega (arith, u.signed_section-arg-1.given)) u.signed_section.ensures; deblocked_after = deblocked_laid _ _ f _ _ (omega (arith, c.unsigned_section-arg-1.given)) c.unsigned_section.ensures; cdef_after = cdef_laid _ _ f _ _ (omega (arith, c.unsigned_section-arg-in-Done-1.given)) c.unsigned_section-in-Done.ensures }

@@ -59,9 +59,7 @@ work-requires c = let k = c.before.before.before.before.before in let f = found 
     (bounds_lent _ _ f _ (same_job k), length-take-le ((sections k).cdef - 0) (start k).args.out.now (omega (arith, f.few_cdef, (start k).requires)) ∙ sym (length-take-le ((sections k).cdef - 0) (read k).read_job-t.new.1.1.1.0 (omega (arith, f.few_cdef, cdef_long k))))
 
 pub returns-in-Refused : goal.returns-in-Refused
-returns-in-Refused c = let q = sym (ap of_job_read c.in-Refused.is) ∙ c.read_job-t.ensures.result_value in let n = job_refused c.in-Refused.why in
-record { result_value = run_refused _ _ n q; out_after = rows_refused _ _ n q _ }
+returns-in-Refused c = let q = sym (ap of_job_read c.in-Refused.is) ∙ c.read_job-t.ensures.result_value in let n = job_refused c.in-Refused.why in record { result_value = run_refused _ _ n q; out_after = rows_refused _ _ n q _ }
 
 pub returns-in-Done : goal.returns-in-Done
-returns-in-Done c = let k = c.before.before.before.before.before.before.before.before in let w = c in let f = found k in
-record { result_value = w.work.ensures.result_value ∙ run_same _ _ f.number (same_job k); out_after = rows_put _ f.number _ _ (cdef_count _ _ f) _ _ (same_job k) w.work.ensures.out_after }
+returns-in-Done c = let k = c.before.before.before.before.before.before.before.before in let w = c in let f = found k in record { result_value = w.work.ensures.result_value ∙ run_same _ _ f.number (same_job k); out_after = rows_put _ f.number _ _ (cdef_count _ _ f) _ _ (same_job k) w.work.ensures.out_after }

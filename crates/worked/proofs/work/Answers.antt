@@ -54,9 +54,7 @@ compared-requires c = let k = c.before.before.before.before in let b = c in let 
 pub returns-in-Refused : goal.returns-in-Refused
 unfolding job_refusal_number
 returns-in-Refused c = let w = c.before.before.before.before.before in let why = c.in-Refused.why in
-    let q = sym (ap of_restored c.in-Refused.is) ∙ w.restore_plane-t.ensures.result_value in
-record { result_value = refused_answer (job w) _ (refusal_back why).1 (plane_refused _ _ _ _ _ _ _ q ∙ same_number _ _ _ _ _ 6912 (start w).requires.1 refl); out_after = rows w }
+    let q = sym (ap of_restored c.in-Refused.is) ∙ w.restore_plane-t.ensures.result_value in record { result_value = refused_answer (job w) _ (refusal_back why).1 (plane_refused _ _ _ _ _ _ _ q ∙ same_number _ _ _ _ _ 6912 (start w).requires.1 refl); out_after = rows w }
 
 pub returns-in-Done : goal.returns-in-Done
-returns-in-Done c = let k = c.before.before.before.before.before in let b = c in let r = (start (call k)).pre.0 in
-record { result_value = done_answer (job (call k)) r (zero k) _ _ _ _ _ c.compared.ensures (plane_done _ _ _ _ _ _ _ (answer k)).1 (rows (call k)) b.by_stripes.ensures (b.by_stripes.auto.1.1.1.0 ∙ long k); out_after = rows (call k) }
+returns-in-Done c = let k = c.before.before.before.before.before in let b = c in let r = (start (call k)).pre.0 in record { result_value = done_answer (job (call k)) r (zero k) _ _ _ _ _ c.compared.ensures (plane_done _ _ _ _ _ _ _ (answer k)).1 (rows (call k)) b.by_stripes.ensures (b.by_stripes.auto.1.1.1.0 ∙ long k); out_after = rows (call k) }

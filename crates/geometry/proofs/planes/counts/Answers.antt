@@ -50,3 +50,9 @@ returns c =    let k = c in
     let l = lines c.before.before.before in
     let m = columns c.before in
     ap4 made (c.units.ensures ∙ ap (λ h. units h k.args.f.unit_size) k.height_of-height.ensures) m l (ap2 (λ a b. a * b) l m)
+
+pub height_of-height-requires : goal.height_of-height-requires
+height_of-height-requires c = search rules
+
+pub width_of-requires : goal.width_of-requires
+width_of-requires c = search rules

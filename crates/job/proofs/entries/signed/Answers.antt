@@ -27,4 +27,4 @@ overflow_sub-result c = rw (plain c.args.e c.requires) (less_fits c.args.e c.req
 
 pub returns : goal.returns
 unfolding signed16
-returns c = to_z-of_z {w = w32} (sub-result c) ∙ simp (plain c.args.e c.requires, le-ltb _ _ c.if-e-lt32768.false)
+returns c = to_z-of_z {w = w32} (overflow_sub-result c) ∙ simp (plain c.args.e c.requires, le-ltb _ _ c.if-e-lt32768.false)

@@ -50,3 +50,12 @@ unfolding sections_of
 returns c = let k = c.before.before in let l = k.before.before in let m = l.before.before in
     counts_done _ (sym m.entry.ensures.0 ∙ m.if-entry-ne8.false) (omega (arith, c.if-n-u-3.false, units_are m, deblocked_are l, cdef_are k)) _
     (ap4 (λ f u d e. record { frame = f; units = u; deblocked = d; cdef = e }) c.frame_of.ensures (units_are m) (deblocked_are l) (cdef_are k))
+
+pub overflow_cast-d : goal.overflow_cast-d
+overflow_cast-d c = search rules
+
+pub overflow_cast-u : goal.overflow_cast-u
+overflow_cast-u c = search rules
+
+pub overflow_cast-c : goal.overflow_cast-c
+overflow_cast-c c = search rules

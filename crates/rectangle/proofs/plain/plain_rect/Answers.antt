@@ -15,8 +15,7 @@ pub overflow_add-first : goal.overflow_add-first
 overflow_add-first c = omega (arith, c.requires.fetchable.inside_low, c.requires.w_in_bounds.2.low, c.requires.w_in_bounds.3.high_low)
 
 pub copy_rect-requires : goal.copy_rect-requires
-copy_rect-requires c = let s = c in let p = s.requires.w_in_bounds in
-record { rw_bound = (p.2.right, omega (arith, p.0, mul-le-mul_right s.args.w p.2.low), own_room s.args.d _ _ _ _ s.args.r s.requires.fetchable s.args.y0 s.args.rh p.4 p.1 p.2.low); w_bound = (p.3.wide_low, omega (arith, p.2.low, p.3.high_low), omega (arith, s.requires.fetchable.inside_low, p.2.low, p.3.high_low)) }
+copy_rect-requires c = let s = c in let p = s.requires.w_in_bounds in record { rw_bound = (p.2.right, omega (arith, p.0, mul-le-mul_right s.args.w p.2.low), own_room s.args.d _ _ _ _ s.args.r s.requires.fetchable s.args.y0 s.args.rh p.4 p.1 p.2.low); w_bound = (p.3.wide_low, omega (arith, p.2.low, p.3.high_low), omega (arith, s.requires.fetchable.inside_low, p.2.low, p.3.high_low)) }
 
 pub returns : goal.returns
 returns c = let s = c in let p = s.requires.w_in_bounds in

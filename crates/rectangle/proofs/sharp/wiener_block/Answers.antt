@@ -46,8 +46,7 @@ pub overflow_add-y0 : goal.overflow_add-y0
 overflow_add-y0 c = omega (arith, inner c.before.before.before.before)
 
 pub down_window-requires : goal.down_window-requires
-down_window-requires c = let a = c.before.before in let s = st a in let p = s.requires.w_in_bounds in
-record { w_in_bounds = (omega (arith, whole s, p.6.right), omega (arith, as_long a), omega arith, omega arith); legal_taps = (s.requires.legal_taps.0, s.requires.legal_taps.2); halves = halves a }
+down_window-requires c = let a = c.before.before in let s = st a in let p = s.requires.w_in_bounds in record { w_in_bounds = (omega (arith, whole s, p.6.right), omega (arith, as_long a), omega arith, omega arith); legal_taps = (s.requires.legal_taps.0, s.requires.legal_taps.2); halves = halves a }
 
 pub returns : goal.returns
 returns c = let a = c.before.before.before.before in let s = st a in

@@ -35,8 +35,7 @@ module _ (g : goal.After-gather) where
   legal = gathered_samples st.args.d st.args.inside.now st.args.beside.now st.args.w st.args.h st.args.r st.requires.fetchable st.requires.w_in_bounds.7 st.args.x0 st.args.y0 (st.args.rw + 6) (st.args.rh + 6) st.args.s.now g.gather.last.0 g.gather.ensures (room st)
 
 pub gather-requires : goal.gather-requires
-gather-requires c = let s = c.before in let p = s.requires.w_in_bounds in let f = s.requires.fetchable in
-record { m_in_bounds = (room s, p.7.wide, p.7.wide_low, p.7.high, p.7.high_low); x0_bound = (omega (arith, p.6.right, p.7.wide_low), omega (arith, p.6.low, p.7.high_low), omega arith, omega arith); reach = (f.reach, f.over_low, f.inside_low, f.under_low) }
+gather-requires c = let s = c.before in let p = s.requires.w_in_bounds in let f = s.requires.fetchable in record { m_in_bounds = (room s, p.7.wide, p.7.wide_low, p.7.high, p.7.high_low); x0_bound = (omega (arith, p.6.right, p.7.wide_low), omega (arith, p.6.low, p.7.high_low), omega arith, omega arith); reach = (f.reach, f.over_low, f.inside_low, f.under_low) }
 
 pub overflow_mul-y0 : goal.overflow_mul-y0
 overflow_mul-y0 c = omega (arith, inner c.before.before.before.before)
@@ -45,8 +44,7 @@ pub overflow_add-y0 : goal.overflow_add-y0
 overflow_add-y0 c = omega (arith, inner c.before.before.before.before, c.requires.w_in_bounds.6.right)
 
 pub selfguided_window-requires : goal.selfguided_window-requires
-selfguided_window-requires c = let g = c.before.before.before in let s = st g in let p = s.requires.w_in_bounds in
-record { le_w = (p.2, p.3, p.4, p.5, omega arith, omega (arith, as_long g, p.1)); samples = (legal g, record { fits = λ i h. fits s i h }, s.requires.legal_weights.0, s.requires.legal_weights.1) }
+selfguided_window-requires c = let g = c.before.before.before in let s = st g in let p = s.requires.w_in_bounds in record { le_w = (p.2, p.3, p.4, p.5, omega arith, omega (arith, as_long g, p.1)); samples = (legal g, record { fits = λ i h. fits s i h }, s.requires.legal_weights.0, s.requires.legal_weights.1) }
 
 pub returns : goal.returns
 returns c = let g = c.before.before.before.before.before.before in let s = st g in

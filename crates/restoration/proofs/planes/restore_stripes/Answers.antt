@@ -59,8 +59,7 @@ whole_source-r-requires c = let t = c.before.before in (omega (arith, own t, (st
 
 pub restore_rectangles-requires : goal.restore_rectangles-requires
 restore_rectangles-requires c = let w = c.before.before.before in let i = w in let t = i.before.before.before in let s = st t in let p = s.requires in let v = i.loop-at.invariant in
-    let b = stripe_asked p.asked.0 s.args.deblocked.now s.args.cdef.now i.loop-at.at (turn w) _ (source w) _ (deep t) p.asked.2 p.asked.3 p.samples.0 p.samples.1 in
-record { asked = (subst (Asked s.args.f s.args.table.now) (sym v.1) p.asked.0, turn w, omega (arith, p.asked.1, v.2.long)); stripe = (b.0, a2_table _ t.table.ensures); fetchable = b.1 }
+    let b = stripe_asked p.asked.0 s.args.deblocked.now s.args.cdef.now i.loop-at.at (turn w) _ (source w) _ (deep t) p.asked.2 p.asked.3 p.samples.0 p.samples.1 in record { asked = (subst (Asked s.args.f s.args.table.now) (sym v.1) p.asked.0, turn w, omega (arith, p.asked.1, v.2.long)); stripe = (b.0, a2_table _ t.table.ensures); fetchable = b.1 }
 
 pub overflow_add-at : goal.overflow_add-at
 overflow_add-at c = let t = c.before.before.before.before.before.before.before.before.before in omega (arith, many t, few t, c.loop-at-test.true)

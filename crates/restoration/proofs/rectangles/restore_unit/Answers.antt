@@ -94,8 +94,7 @@ pub unit_at-u-requires : goal.unit_at-u-requires
 unit_at-u-requires c = let p = (st c).requires.asked.0 in record { e_in_bounds = omega (arith, entry_in p (st c).args.k, index c); t = subst (λ (e : ℕ). T (legal_entry (st c).args.f.plane (st c).args.table.now e)) (sym (index c)) (entry_legal p (st c).args.k) }
 
 pub restore_rect-requires : goal.restore_rect-requires
-restore_rect-requires c = let u = c.before.before in let m = u.before in let s = st m in let t = fitted m in let l = s.requires.asked.0.legal in
-record { w_in_bounds = (omega (arith, area m, s.requires.asked.2), omega (arith, t.room, needed m, s.requires.asked.0.room), t.wide, t.wide_low, t.high, t.high_low, t.within, sides m); legal_kind = (subst LegalKind (sym (kind_is u)) (legal_kind s.args.f.plane s.args.table.now (entry s.requires.asked.0 s.args.k) (entry_legal s.requires.asked.0 s.args.k)), s.requires.stripe.1, own_rows s.requires.asked.0 s.args.k s.requires.asked.1 _ _ _ _ (ew m) (eh m) (eg m) (ec m) s.args.r s.requires.stripe.0); fetchable = fetched m }
+restore_rect-requires c = let u = c.before.before in let m = u.before in let s = st m in let t = fitted m in let l = s.requires.asked.0.legal in record { w_in_bounds = (omega (arith, area m, s.requires.asked.2), omega (arith, t.room, needed m, s.requires.asked.0.room), t.wide, t.wide_low, t.high, t.high_low, t.within, sides m); legal_kind = (subst LegalKind (sym (kind_is u)) (legal_kind s.args.f.plane s.args.table.now (entry s.requires.asked.0 s.args.k) (entry_legal s.requires.asked.0 s.args.k)), s.requires.stripe.1, own_rows s.requires.asked.0 s.args.k s.requires.asked.1 _ _ _ _ (ew m) (eh m) (eg m) (ec m) s.args.r s.requires.stripe.0); fetchable = fetched m }
 
 pub returns : goal.returns
 returns c = let u = c.before.before.before.before.before in let m = u.before in let s = st m in

@@ -16,8 +16,7 @@ numbers : (c : lts.After-across_rounding tie.the-claims reads.Pre reads.Post tie
 numbers c = record { add_is = c.across_rounding-a.ensures.add_value.0; shift_is = c.across_rounding-a.ensures.add_value.1; low_is = c.across_rounding-a.ensures.low_value.0; high_is = c.across_rounding-a.ensures.low_value.1 }
 
 pub across_values-requires : goal.across_values-requires
-across_values-requires c = let s = c in
-record { n_in_bounds = (omega arith, omega arith, omega arith); halves = halves_part _ _ (samples_halves s.args.d s.requires.samples) (omega arith) (omega arith); narrow_rows = narrow_rows (small_horizontal s.requires.legal_taps.0) s.requires.legal_taps.1; mild = across_mild (numbers c.before) }
+across_values-requires c = let s = c in record { n_in_bounds = (omega arith, omega arith, omega arith); halves = halves_part _ _ (samples_halves s.args.d s.requires.samples) (omega arith) (omega arith); narrow_rows = narrow_rows (small_horizontal s.requires.legal_taps.0) s.requires.legal_taps.1; mild = across_mild (numbers c.before) }
 
 pub returns : goal.returns
 returns c = let s = c in

@@ -30,3 +30,6 @@ overflow_cast-result c = record { sfits = of_read (λ z. mag z < 32768) (settled
 
 pub returns : goal.returns
 returns c = ap (λ z. to_z w16 (of_z w16 z)) (settled_is c) ∙ to_z-of_z {w = w16} (record { sfits = fits c })
+
+pub across7-z-requires : goal.across7-z-requires
+across7-z-requires c = search rules

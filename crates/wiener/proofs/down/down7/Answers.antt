@@ -119,3 +119,15 @@ overflow_add-result-3 c = safe w32 (whole c) tt
 
 pub returns : goal.returns
 returns c = is_exact w32 (whole c) tt ∙ paired _ _ _ _ _
+
+pub overflow_mul-st-3 : goal.overflow_mul-st-3
+overflow_mul-st-3 c = search rules
+
+pub overflow_add-c-2 : goal.overflow_add-c-2
+overflow_add-c-2 c = search rules
+
+pub offset_bounds-s-c : goal.offset_bounds-s-c
+offset_bounds-s-c c = search rules
+
+pub overflow_mul-st-5 : goal.overflow_mul-st-5
+overflow_mul-st-5 c = search rules

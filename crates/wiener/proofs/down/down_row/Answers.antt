@@ -16,8 +16,7 @@ numbers : (c : lts.After-down_rounding tie.the-claims reads.Pre reads.Post tie.h
 numbers c = record { add_is = c.down_rounding-a.ensures.add_value.0; shift_is = c.down_rounding-a.ensures.add_value.1; low_is = c.down_rounding-a.ensures.low_value.0; high_is = c.down_rounding-a.ensures.low_value.1 }
 
 pub down_values-requires : goal.down_values-requires
-down_values-requires c = let s = c in
-record { n_in_bounds = (omega arith, omega arith, omega arith); halves = halves_part _ _ s.requires.halves (omega arith) (omega arith); narrow_rows = narrow_rows (small_vertical s.requires.legal_taps.0) s.requires.legal_taps.1; mild = down_mild (numbers c.before) }
+down_values-requires c = let s = c in record { n_in_bounds = (omega arith, omega arith, omega arith); halves = halves_part _ _ s.requires.halves (omega arith) (omega arith); narrow_rows = narrow_rows (small_vertical s.requires.legal_taps.0) s.requires.legal_taps.1; mild = down_mild (numbers c.before) }
 
 pub returns : goal.returns
 returns c = let s = c in

@@ -59,5 +59,4 @@ overflow_add-add c = safe w32 (e c) tt
 
 pub returns : goal.returns
 unfolding bias
-returns c = let p = c.r0-r.ensures in let d = c.args.d in
-record { add_value = (is_exact w32 (e c) tt ∙ ap (λ r. pos (2 ^ (r - 1)) +ℤ (pos (offset d) -ℤ pos 16384) *ℤ pos (2 ^ r)) p, p); low_value = (refl, is_exact w32 (top c) tt) }
+returns c = let p = c.r0-r.ensures in let d = c.args.d in record { add_value = (is_exact w32 (e c) tt ∙ ap (λ r. pos (2 ^ (r - 1)) +ℤ (pos (offset d) -ℤ pos 16384) *ℤ pos (2 ^ r)) p, p); low_value = (refl, is_exact w32 (top c) tt) }

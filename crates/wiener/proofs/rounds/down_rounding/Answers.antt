@@ -47,5 +47,4 @@ overflow_sub-add c = safe w32 (e c) tt
 
 pub returns : goal.returns
 unfolding bias
-returns c = let p = c.r1-r.ensures in let d = c.args.d in
-record { add_value = (is_exact w32 (e c) tt ∙ ap (λ r. pos (2 ^ (r - 1)) -ℤ (pos (offset d) -ℤ pos 16384) *ℤ pos 128) p, p); low_value = (refl, returned w32 c.largest-top.type_inv c.largest-top.ensures) }
+returns c = let p = c.r1-r.ensures in let d = c.args.d in record { add_value = (is_exact w32 (e c) tt ∙ ap (λ r. pos (2 ^ (r - 1)) -ℤ (pos (offset d) -ℤ pos 16384) *ℤ pos 128) p, p); low_value = (refl, returned w32 c.largest-top.type_inv c.largest-top.ensures) }

@@ -42,8 +42,7 @@ pub overflow_add-at : goal.overflow_add-at
 overflow_add-at c = omega (arith, long c.before, long_in c.before)
 
 pub across_row-requires : goal.across_row-requires
-across_row-requires c = let i = c.before in let p = (a i).requires in
-record { n_in_bounds = (omega (arith, as_long i, long i), omega (arith, long_in i), omega arith); legal_taps = p.legal_taps; samples = samples_part _ _ p.samples (omega arith) (omega (arith, long_in i)) }
+across_row-requires c = let i = c.before in let p = (a i).requires in record { n_in_bounds = (omega (arith, as_long i, long i), omega (arith, long_in i), omega arith); legal_taps = p.legal_taps; samples = samples_part _ _ p.samples (omega arith) (omega (arith, long_in i)) }
 
 pub loop-i-preserved : goal.loop-i-preserved
 loop-i-preserved c = let i = c in

@@ -42,8 +42,7 @@ pub overflow_mul-i-in-loop-i : goal.overflow_mul-i-in-loop-i
 overflow_mul-i-in-loop-i c = omega (arith, long c.before, long_in c.before)
 
 pub down_row-requires : goal.down_row-requires
-down_row-requires c = let i = c.before in let p = (a i).requires in
-record { n_in_bounds = (omega (arith, as_long i, long i), omega (arith, long_in i), omega arith); legal_taps = p.legal_taps; halves = halves_part _ _ p.halves (omega arith) (omega (arith, long_in i)) }
+down_row-requires c = let i = c.before in let p = (a i).requires in record { n_in_bounds = (omega (arith, as_long i, long i), omega (arith, long_in i), omega arith); legal_taps = p.legal_taps; halves = halves_part _ _ p.halves (omega arith) (omega (arith, long_in i)) }
 
 pub loop-i-preserved : goal.loop-i-preserved
 loop-i-preserved c = let i = c in
