@@ -489,6 +489,26 @@ def turn_file(path, names, own_ensures, module):
     for old, new in renamed.items():
         if old != new:
             rest = [re.sub(rf"(?<![\w'.-]){re.escape(old)}(?![\w'-])", new, it) if re.search(rf"(?<![\w'.-]){re.escape(old)}(?![\w'-])", it) and not it.startswith(f"pub {old} ") else it for it in rest]
+    # A helper that only leads back to the start is left out: what stands there can be named from every later place.
+    stands = {names.at[w] for w in re.findall(r"(?m)^pub (\S+) : goal\.", "\n".join(rest)) if w in names.at}
+    for helper, place in turn.helpers.items():
+        if place != "Start" or place in stands:
+            continue
+        fields = r"(args|requires|ranges)"
+        new = []
+        for it in rest:
+            scope = re.search(rf"(?m)^  (?:abbrev |pub )*{re.escape(helper)} : goal\.Start\n  {re.escape(helper)} = (\w+)(?:\.before)*\n+", it)
+            if scope:
+                it = it.replace(scope[0], "")
+                it = re.sub(rf"(?<![\w'.]){re.escape(helper)}\.{fields}", rf"{scope[1]}.\1", it)
+            elif re.match(rf"(?:--.*\n)*(?:abbrev |pub )*{re.escape(helper)} : goal\.", it):
+                continue
+            it = re.sub(rf"\({re.escape(helper)} (\w+)(?:\.before)*\)\.{fields}", r"\1.\2", it)
+            it = re.sub(rf"(let \w+ = ){re.escape(helper)} (\w+(?:\.before)*)(?= in\b)", r"\1\2", it)
+            new.append(it)
+            if re.search(rf"(?<![\w'.]){re.escape(helper)} \w", it):
+                turn.look(f"{helper} still led back")
+        rest = new
     folder = os.path.dirname(path)
     head_text = "\n".join(head) + "\n" if head else ""
     needed = lambda lines, text: [it for it in lines if wanted(it, text)]

@@ -59,7 +59,7 @@ def main():
             print(f"look: {path}: nothing was generated\n{done.stdout[-800:]}{done.stderr[-800:]}")
             continue
         goals = open(made, encoding="utf-8").read()
-        it = re.search(r"abbrev pub [A-Z]\S* : Type 0\n\S+ =\s+Lts\.\S+((?:\s+\S+)*?)\n\n", goals)
+        it = re.search(r"abbrev pub [A-Z]\S* : Type 0\n\S+ =\s+(?:Lts|View)\.\S+((?:\s+\S+)*?)\n\n", goals)
         words = (it[1] if it else "").split()
         turned = {"Tie.the-claims": "tie.the-claims", "Reads.Pre": "reads.Pre", "Reads.Post": "reads.Post", "Tie.handed_clauses": "tie.handed_clauses"}
         words = [turned.get(w, f"goal.{w}") for w in words]
@@ -68,9 +68,12 @@ def main():
             old = data[f"Rattle-{crate}-proofs.{function}.Lts"]["places"]
             names = data[f"Rattle-{crate}-proofs.{function}.Lts"]["places_by_name"]
             head = " ".join([f"lts.{old[names.index(place)][0]}", *words])
+            view = f"{to}/Rattle-{crate}-proofs/{function.replace('.', '/')}/Lts/View.antt"
+            if os.path.exists(view) and re.search(rf"(?m)\bIn-{re.escape(place)} :", open(view, encoding="utf-8").read()):
+                head = " ".join([f"view.In-{place}", *words])
             text = re.sub(rf"goal\.{re.escape(place)}(?![\w'-])", head, text)
         module = f"Rattle.{crate}.proofs.{function}"
-        uses = [f"use {module}.Lts as lts", f"use {module}.Reads as reads"] + [f"use {module}.Tie as tie"] * any("tie." in w for w in words)
+        uses = [f"use {module}.Lts as lts"] * ("lts." in text) + [f"use {module}.Lts.View as view"] * ("view." in text) + [f"use {module}.Reads as reads"] + [f"use {module}.Tie as tie"] * any("tie." in w for w in words)
         text = text.replace(f"use {module}.Goals as goal", "\n".join([*uses, f"use {module}.Goals as goal"]))
         open(path, "w", encoding="utf-8").write(text)
         print(f"turned: {path}: {sorted(lacking)}")

@@ -18,10 +18,10 @@ module _ (c : lts.After-a2_fours tie.the-claims reads.Pre reads.Post) where
   abbrev a : lts.Start tie.the-claims reads.Pre reads.Post
   a = c.before.before
 
-  kept : (k : ℕ) → k < a.args.to → get_or c.a2_fours.new.0 k (pos 0) ≡ get_or a.args.s.now k (pos 0)
+  kept : (k : ℕ) → k < a.args.to → get_or c.a2_fours.new.s k (pos 0) ≡ get_or a.args.s.now k (pos 0)
   kept k h = stamp_before _ _ _ _ _ _ _ c.a2_fours.ensures h
 
-  long : length c.a2_fours.new.0 ≡ length a.args.s.now
+  long : length c.a2_fours.new.s ≡ length a.args.s.now
   long = ap length c.a2_fours.ensures ∙ stamp_length _ _ _ _
 
 pub a2_fours-requires : goal.a2_fours-requires
@@ -32,6 +32,6 @@ a2_ones-requires c = let f = c.before.before in (omega arith, omega (arith, long
 
 pub returns : goal.returns
 returns c = let f = c.before.before.before.before in let s = (a f).args in let F : ℕ → ℤ = λ k. pos (a2_of (sample_at s.s.now (s.from + k))) in
-    stamp_next F _ s.to (4 * (s.n / 4)) (s.n % 4) _ s.s.now f.a2_fours.new.0 _ f.a2_fours.ensures c.a2_ones.ensures (omega arith)
+    stamp_next F _ s.to (4 * (s.n / 4)) (s.n % 4) _ s.s.now f.a2_fours.new.s _ f.a2_fours.ensures c.a2_ones.ensures (omega arith)
     (λ k h. ap (λ n. pos (a2_of (nat_abs n))) (kept f (s.from + 4 * (s.n / 4) + k) (omega arith)) ∙ ap (λ n. pos (a2_of (sample_at s.s.now n))) (omega arith))
     ∙ ap (λ n. stamp F s.to n s.s.now) (omega arith)

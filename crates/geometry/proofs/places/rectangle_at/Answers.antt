@@ -31,7 +31,7 @@ pub nonzero_rem-c : goal.nonzero_rem-c
 nonzero_rem-c c = (found c).some
 
 pub overflow_mul-x : goal.overflow_mul-x
-overflow_mul-x c = omega (arith, (found c).ranges)
+overflow_mul-x c = omega (arith, (found c).fits)
 
 pub stripe_start-y-requires : goal.stripe_start-y-requires
 stripe_start-y-requires c = (c.requires.legal.half, omega (arith, (found c).stripe))

@@ -7,10 +7,10 @@ use borrow.Author.Rules.{rules}
 use Rattle.geometry.proofs.planes.block_of.Goals as goal
 
 pub block-requires : goal.block-requires
-block-requires c = let k = c in
-    let p = passed _ k.requires.f_value in
-    rw (k.sub_of.ensures, c.sub_of-2.ensures, c.height_of.ensures, c.width_of.ensures)
-    (p.legal, (p.own_x, k.requires.row_bound.0, k.requires.row_bound.1))
+block-requires c = let p = passed _ c.requires.f_value in record {
+  legal = rw (c.sub_of-2.ensures, c.height_of.ensures, c.width_of.ensures) p.legal;
+  sub_x_bound = rw c.sub_of.ensures (p.own_x, c.requires.row_bound.0, c.requires.row_bound.1);
+}
 
 pub returns : goal.returns
 returns c =    let k = c in

@@ -7,8 +7,10 @@ use borrow.Author.Rules.{rules}
 use Rattle.geometry.proofs.planes.rectangle_of.Goals as goal
 
 pub rectangle_at-requires : goal.rectangle_at-requires
-rectangle_at-requires c = let s = c in
-    rw (c.sub_of.ensures, c.height_of.ensures, c.width_of.ensures) ((passed _ s.requires.f_value).legal, s.requires.index_bound)
+rectangle_at-requires c = record {
+  legal = rw (c.sub_of.ensures, c.height_of.ensures, c.width_of.ensures) (passed _ c.requires.f_value).legal;
+  index_bound = rw (c.sub_of.ensures, c.height_of.ensures, c.width_of.ensures) c.requires.index_bound;
+}
 
 pub returns : goal.returns
 returns c =    let k = c in

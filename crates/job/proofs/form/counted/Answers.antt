@@ -8,22 +8,17 @@ use Rattle.standard.specs.Refusals.{wide}
 use Rattle.standard.specs.Job.{unit_count, deblocked_count, cdef_count, sections_of}
 use Rattle.job.proofs.Laws.{other_frame, other_count, counts_done}
 use borrow.Author.Rules.{rules}
-use Rattle.job.proofs.form.counted.Lts as lts
-use Rattle.job.proofs.form.counted.Reads as reads
 use Rattle.job.proofs.form.counted.Goals as goal
 
 module _ (k : goal.After-entry-u) where
-  abbrev start : lts.Start
-  start = k.before.before.before.before.before
-
-  units_are : k.entry-u.result ≡ unit_count start.args.bytes.now
+  units_are : k.entry-u.result ≡ unit_count k.args.bytes.now
   units_are = k.entry-u.ensures.0
 
-deblocked_are : (k : goal.After-entry-d) → k.entry-d.result ≡ deblocked_count (start k.before.before).args.bytes.now
-deblocked_are k = k.entry-d.ensures.0 ∙ ap (λ n. wide (start k.before.before).args.bytes.now (10 + n)) (units_are k.before.before)
+deblocked_are : (k : goal.After-entry-d) → k.entry-d.result ≡ deblocked_count k.args.bytes.now
+deblocked_are k = k.entry-d.ensures.0 ∙ ap (λ n. wide k.args.bytes.now (10 + n)) (units_are k.before.before)
 
-cdef_are : (k : goal.After-entry-c) → k.entry-c.result ≡ cdef_count (start k.before.before.before.before).args.bytes.now
-cdef_are k = let l = k.before.before in k.entry-c.ensures.0 ∙ ap2 (λ m n. wide (start l.before.before).args.bytes.now (11 + m + n)) (units_are l.before.before) (deblocked_are l)
+cdef_are : (k : goal.After-entry-c) → k.entry-c.result ≡ cdef_count k.args.bytes.now
+cdef_are k = let l = k.before.before in k.entry-c.ensures.0 ∙ ap2 (λ m n. wide l.args.bytes.now (11 + m + n)) (units_are l.before.before) (deblocked_are l)
 
 pub returns-then-n-lt24 : goal.returns-then-n-lt24
 unfolding job_refusal_number
@@ -51,11 +46,11 @@ returns c = let k = c.before.before in let l = k.before.before in let m = l.befo
     counts_done _ (sym m.entry.ensures.0 ∙ m.if-entry-ne8.false) (omega (arith, c.if-n-u-3.false, units_are m, deblocked_are l, cdef_are k)) _
     (ap4 (λ f u d e. record { frame = f; units = u; deblocked = d; cdef = e }) c.frame_of.ensures (units_are m) (deblocked_are l) (cdef_are k))
 
-pub overflow_cast-d : goal.overflow_cast-d
-overflow_cast-d c = search rules
-
 pub overflow_cast-u : goal.overflow_cast-u
 overflow_cast-u c = search rules
 
 pub overflow_cast-c : goal.overflow_cast-c
 overflow_cast-c c = search rules
+
+pub overflow_cast-d : goal.overflow_cast-d
+overflow_cast-d c = search rules
