@@ -192,6 +192,11 @@ class Turn:
         more = rest[1:]
         if more[:1] == ["inv"]:
             more = ["invariant", *more[1:]]
+        callee = self.n.raw["places"][number][3]
+        if more[:1] in (["new"], ["exit"]) and callee and len(more) > 1 and more[1] in "01":
+            found = fold(self.n.raw["params"][callee], more[1:])
+            if found:
+                more = ["new", found[0], *more[1 + found[1]:]]
         clauses = self.n.raw["clauses"][number]
         if clauses and more[:1] == ["ensures"] and len(more) > 1:
             found = fold(clauses["fields"], more[1:])

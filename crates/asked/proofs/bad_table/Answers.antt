@@ -11,9 +11,12 @@ use Rattle.standard.specs.Stripes.{units}
 use Rattle.standard.specs.Calls.{counts_of}
 use Rattle.asked.proofs.Numbers.{unit_counts}
 use borrow.Author.Rules.{rules}
+use Rattle.asked.proofs.bad_table.Lts as lts
+use Rattle.asked.proofs.bad_table.Reads as reads
+use Rattle.asked.proofs.bad_table.Tie as tie
 use Rattle.asked.proofs.bad_table.Goals as goal
 
-module _ (k : goal.After-counts-c) where
+module _ (k : lts.After-counts tie.the-claims reads.Pre reads.Post) where
   high : k.counts-c.result.unit_rows ≡ units (plane_height k.args.f) k.args.f.unit_size
   unfolding counts_of
   high = ap (λ n. n.unit_rows) k.counts-c.ensures

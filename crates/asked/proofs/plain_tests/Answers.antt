@@ -20,3 +20,6 @@ returns-then-bad_samples c = λ table scratch. let k = c.before.before in let s 
 
 pub returns : goal.returns
 returns c = λ table scratch. let k = c.before.before in let s = k in plain_0 _ table _ _ _ scratch s.requires.depth_value s.requires.frame_type_value (shaped k) (sym c.bad_samples.ensures ∙ c.if-bad_samples.false)
+
+pub bad_samples-requires : goal.bad_samples-requires
+bad_samples-requires c = search rules

@@ -45,3 +45,15 @@ returns-then-bad_side-2 c = let k4 = c.before.before in let k3 = k4.before.befor
 
 pub slice_tests-requires : goal.slice_tests-requires
 slice_tests-requires c = let k5 = c in let k4 = k5.before.before in let k3 = k4.before.before in let k2 = k3.before.before in let k1 = k2.before.before in (depth_ok k1, plane_ok k2, type_ok k3, high_ok k4, wide_ok k5)
+
+pub bad_plane-requires : goal.bad_plane-requires
+bad_plane-requires c = search rules
+
+pub bad_side-requires : goal.bad_side-requires
+bad_side-requires c = search rules
+
+pub bad_frame_type-requires : goal.bad_frame_type-requires
+bad_frame_type-requires c = search rules
+
+pub bad_side-requires-2 : goal.bad_side-requires-2
+bad_side-requires-2 c = search rules

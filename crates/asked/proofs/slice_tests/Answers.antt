@@ -19,3 +19,6 @@ returns-then-bad_unit_size c = let k = c.before.before in gives_5 _ _ _ _ _ _ k.
 
 pub typed_tests-requires : goal.typed_tests-requires
 typed_tests-requires c = let k = c.before.before in record { depth_value = k.requires; frame_type_nonzero = (some_type k, sym c.bad_unit_size.ensures ∙ c.if-bad_unit_size.false) }
+
+pub bad_unit_size-requires : goal.bad_unit_size-requires
+bad_unit_size-requires c = search rules

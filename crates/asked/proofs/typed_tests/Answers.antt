@@ -46,3 +46,12 @@ returns-then-short_scratch c = let k4 = c.before.before in let k3 = k4.before.be
 
 pub returns : goal.returns
 returns c = let k4 = c.before.before in let k3 = k4.before.before in let k2 = k3.before.before in let k1 = k2.before.before in let s = k1 in gives_0 _ _ _ _ _ _ s.requires.depth_value s.requires.frame_type_nonzero.0 s.requires.frame_type_nonzero.1 (shaped k1) (tabled k2) (legal k3) (ranged k4) (sym c.short_scratch.ensures ∙ c.if-short_scratch.false)
+
+pub bad_samples-requires : goal.bad_samples-requires
+bad_samples-requires c = search rules
+
+pub some_illegal-requires : goal.some_illegal-requires
+some_illegal-requires c = search rules
+
+pub short_scratch-requires : goal.short_scratch-requires
+short_scratch-requires c = search rules

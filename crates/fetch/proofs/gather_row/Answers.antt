@@ -11,20 +11,17 @@ use Rattle.fetch.proofs.gather_row.Goals as goal
 
 -- the row's values, and the three runs that make them
 module _ (c : goal.After-dst-3-1) where
-  abbrev st : goal.Start
-  st = c.before.before.before.before.before.before.before.before.before.before
-
   abbrev f : ℕ → ℤ
-  f k = get_or st.args.row.now (near (length st.args.row.now) st.args.x0 k) (pos 0)
+  f k = get_or c.args.row.now (near (length c.args.row.now) c.args.x0 k) (pos 0)
 
-  same : (i j : ℕ) → i ≡ j → get_or st.args.row.now i (pos 0) ≡ get_or st.args.row.now j (pos 0)
-  same i j e = ap (λ (k : ℕ). get_or st.args.row.now k (pos 0)) e
+  same : (i j : ℕ) → i ≡ j → get_or c.args.row.now i (pos 0) ≡ get_or c.args.row.now j (pos 0)
+  same i j e = ap (λ (k : ℕ). get_or c.args.row.now k (pos 0)) e
 
 pub returns : goal.returns
 returns c = let p = c in
     let r = p.split_row-t.ensures in
     let t = p.split_row-t.result in
-    let s = (st c).args in
+    let s = c.args in
     let e1 = c.repeat_run.ensures ∙ stamp_same _ (f c) s.to t.a _ (λ k h. same c _ _ (sym (r.left k h))) in
     let e2 = stamp_next (f c) _ s.to t.a t.b (s.to + t.a) _ _ _ e1 c.copy_run.ensures refl (λ k h. same c (t.at + k) _ (sym (r.mid k h))) in
     stamp_next (f c) _ s.to (t.a + t.b) (s.n - t.a - t.b) (s.to + t.a + t.b) _ _ _ e2 c.repeat_run-2.ensures (omega arith) (λ k h. same c _ _ (sym (r.right k h)))

@@ -15,20 +15,17 @@ use borrow.Author.Rules.{rules}
 use Rattle.in_place.proofs.restore_stripe.Goals as goal
 
 module _ (c : goal.After-write_stripe-arg-in-Done-2-1) where
-  abbrev st : goal.Start
-  st = c.before.before.before.before.before.before.before
-
-  zero : first (all_tests st.args.f st.args.s st.args.edges.now st.args.plane.now (length st.args.scratch.now) (length st.args.copy.now) st.args.table.now st.args.marks.now) ≡ 0
+  zero : first (all_tests c.args.f c.args.s c.args.edges.now c.args.plane.now (length c.args.scratch.now) (length c.args.copy.now) c.args.table.now c.args.marks.now) ≡ 0
   zero = sym c.stripe_tests-t.ensures ∙ ap of_stored c.in-Done.is
 
-  passed : StripePassed st.args.f st.args.s st.args.table.now st.args.edges.now st.args.plane.now (length st.args.scratch.now) (length st.args.copy.now)
-  passed = stripe_passed st.args.f st.args.s st.args.table.now st.args.edges.now st.args.plane.now st.args.marks.now (length st.args.scratch.now) (length st.args.copy.now) zero
+  passed : StripePassed c.args.f c.args.s c.args.table.now c.args.edges.now c.args.plane.now (length c.args.scratch.now) (length c.args.copy.now)
+  passed = stripe_passed c.args.f c.args.s c.args.table.now c.args.edges.now c.args.plane.now c.args.marks.now (length c.args.scratch.now) (length c.args.copy.now) zero
 
-  each : length st.args.marks.now ≡ stripes (sub_y_of st.args.f) (plane_height st.args.f)
-  each = one_mark_each st.args.f st.args.s st.args.table.now st.args.edges.now st.args.plane.now st.args.marks.now (length st.args.scratch.now) (length st.args.copy.now) zero
+  each : length c.args.marks.now ≡ stripes (sub_y_of c.args.f) (plane_height c.args.f)
+  each = one_mark_each c.args.f c.args.s c.args.table.now c.args.edges.now c.args.plane.now c.args.marks.now (length c.args.scratch.now) (length c.args.copy.now) zero
 
-  done : stripe_call_number (call_of st.args.f st.args.s st.args.table.now st.args.edges.now (length st.args.scratch.now) (length st.args.copy.now)) (lent st.args.plane.now st.args.marks.now) ≡ 0
-  done = sym (number_is st.args.f st.args.s st.args.table.now st.args.edges.now st.args.plane.now st.args.marks.now (length st.args.scratch.now) (length st.args.copy.now)) ∙ zero
+  done : stripe_call_number (call_of c.args.f c.args.s c.args.table.now c.args.edges.now (length c.args.scratch.now) (length c.args.copy.now)) (lent c.args.plane.now c.args.marks.now) ≡ 0
+  done = sym (number_is c.args.f c.args.s c.args.table.now c.args.edges.now c.args.plane.now c.args.marks.now (length c.args.scratch.now) (length c.args.copy.now)) ∙ zero
 
 pub write_stripe-requires : goal.write_stripe-requires
 write_stripe-requires c = passed c
@@ -40,4 +37,4 @@ pub returns-in-Refused : goal.returns-in-Refused
 returns-in-Refused c = let s = c in let e = sym (ap of_stored c.in-Refused.is) ∙ c.stripe_tests-t.ensures ∙ number_is s.args.f s.args.s s.args.table.now s.args.edges.now s.args.plane.now s.args.marks.now (length s.args.scratch.now) (length s.args.copy.now) in let no = refused c.in-Refused.why _ e in record { promised = (e, plane_refused s.args.f s.args.s s.args.table.now s.args.edges.now s.args.plane.now s.args.marks.now (length s.args.scratch.now) (length s.args.copy.now) no, marks_refused s.args.f s.args.s s.args.table.now s.args.edges.now s.args.plane.now s.args.marks.now (length s.args.scratch.now) (length s.args.copy.now) no); scratch_unchanged = λ _. (refl, refl) }
 
 pub returns-in-Done : goal.returns-in-Done
-returns-in-Done c = let w = c in let k = w.before.before.before.before in let s = st k in let z = done k in record { promised = (sym z, w.write_stripe.ensures ∙ plane_done s.args.f s.args.s s.args.table.now s.args.edges.now s.args.plane.now s.args.marks.now (length s.args.scratch.now) (length s.args.copy.now) z, marks_done s.args.f s.args.s s.args.table.now s.args.edges.now s.args.plane.now s.args.marks.now (length s.args.scratch.now) (length s.args.copy.now) z); scratch_unchanged = λ no. absurd (no z) }
+returns-in-Done c = let w = c in let k = w.before.before.before.before in let s = k in let z = done k in record { promised = (sym z, w.write_stripe.ensures ∙ plane_done s.args.f s.args.s s.args.table.now s.args.edges.now s.args.plane.now s.args.marks.now (length s.args.scratch.now) (length s.args.copy.now) z, marks_done s.args.f s.args.s s.args.table.now s.args.edges.now s.args.plane.now s.args.marks.now (length s.args.scratch.now) (length s.args.copy.now) z); scratch_unchanged = λ no. absurd (no z) }

@@ -20,14 +20,11 @@ plain s = legal s.requires.0
 
 -- the count of stripes
 module _ (k : goal.After-stripes-n) where
-  abbrev start : goal.Start
-  start = k.before.before.before.before
-
-  many : k.stripes-n.result ≡ defined.stripes (sub_y_of start.args.f) (plane_height start.args.f)
+  many : k.stripes-n.result ≡ defined.stripes (sub_y_of k.args.f) (plane_height k.args.f)
   many = k.stripes-n.ensures ∙ ap2 defined.stripes k.sub_of.ensures k.extent.ensures
 
-marks_is : (c : goal.After-bad_marks) → c.bad_marks.result ≡ no12 (defined.stripes (sub_y_of (start c.before).args.f) (plane_height (start c.before).args.f)) (start c.before).args.marks.now
-marks_is c = c.bad_marks.ensures ∙ ap (λ (n : ℕ). no12 n (start c.before).args.marks.now) (many c.before)
+marks_is : (c : goal.After-bad_marks) → c.bad_marks.result ≡ no12 (defined.stripes (sub_y_of c.args.f) (plane_height c.args.f)) c.args.marks.now
+marks_is c = c.bad_marks.ensures ∙ ap (λ (n : ℕ). no12 n c.args.marks.now) (many c.before)
 
 -- what each test left, at the place after it
 module _ (c : goal.Else-bad_marks) where
@@ -37,16 +34,16 @@ module _ (c : goal.Else-bad_marks) where
   marked_well : no12 (defined.stripes (sub_y_of origin.args.f) (plane_height origin.args.f)) origin.args.marks.now ≡ false
   marked_well = told (marks_is c.before) c.if-bad_marks.false
 
-there : (c : goal.Else-n-s) → let s = origin c.before in s.args.s < defined.stripes (sub_y_of s.args.f) (plane_height s.args.f)
+there : (c : goal.Else-n-s) → let s = c.before in s.args.s < defined.stripes (sub_y_of s.args.f) (plane_height s.args.f)
 there c = omega (arith, c.if-n-s.false, many c.before.before.before)
 
-in_count : (c : goal.Else-n-s) → let s = origin c.before in leb (defined.stripes (sub_y_of s.args.f) (plane_height s.args.f)) s.args.s ≡ false
+in_count : (c : goal.Else-n-s) → let s = c.before in leb (defined.stripes (sub_y_of s.args.f) (plane_height s.args.f)) s.args.s ≡ false
 in_count c = lt-leb _ _ (there c)
 
-missing : (c : goal.Then-n-s) → let s = origin c.before in leb (defined.stripes (sub_y_of s.args.f) (plane_height s.args.f)) s.args.s ≡ true
-missing c = let s = origin c.before in le-leb (defined.stripes (sub_y_of s.args.f) (plane_height s.args.f)) s.args.s (omega (arith, c.if-n-s.true, many c.before.before.before))
+missing : (c : goal.Then-n-s) → let s = c.before in leb (defined.stripes (sub_y_of s.args.f) (plane_height s.args.f)) s.args.s ≡ true
+missing c = let s = c.before in le-leb (defined.stripes (sub_y_of s.args.f) (plane_height s.args.f)) s.args.s (omega (arith, c.if-n-s.true, many c.before.before.before))
 
-clear : (c : goal.Else-marks-s-eq1) → let s = origin c.before.before.before in eqb (get_or s.args.marks.now s.args.s 0) 1 ≡ false
+clear : (c : goal.Else-marks-s-eq1) → let s = c.before.before.before in eqb (get_or s.args.marks.now s.args.s 0) 1 ≡ false
 clear c = ne_eqb _ _ c.if-marks-s-eq1.false
 
 pub extent-requires : goal.extent-requires
@@ -71,7 +68,7 @@ unfolding refusal_number
 returns-then-marks-s-eq1 c = let e = c.before.before in past _ _ _ _ (marked_well e.before) (past _ _ _ _ (in_count e) (here _ _ _ (eq-eqb _ _ c.if-marks-s-eq1.true)))
 
 pub last_tests-requires : goal.last_tests-requires
-last_tests-requires c = let e = c.before.before in let p = (origin e.before).requires in (p.0, there e, p.1, p.2)
+last_tests-requires c = let e = c.before.before in let p = e.requires in (p.0, there e, p.1, p.2)
 
 pub returns : goal.returns
 returns c = let d = c.before in let e = d.before.before in past _ _ _ _ (marked_well e.before) (past _ _ _ _ (in_count e) (past _ _ _ _ (clear d) c.last_tests.ensures))

@@ -18,10 +18,7 @@ module _ (k : goal.In-Done) where
   abbrev read : goal.After-read_job-t
   read = k.before.before.before
 
-  abbrev start : goal.Start
-  start = read.before.before.before.before.before
-
-  found : Found start.args.bytes.now k.in-Done.s
+  found : Found read.args.bytes.now k.in-Done.s
   found = found_in _ _ (sym (ap of_job_read k.in-Done.is) ∙ read.read_job-t.ensures.result_value)
 
   units_long : length read.read_job-t.last.1.0 ≡ 20
@@ -36,7 +33,7 @@ module _ (k : goal.In-Done) where
   abbrev sections : Sections
   sections = k.in-Done.s
 
-  same_job : job_with sections.frame (take (sections.units - 0) read.read_job-t.last.1.0) (take (sections.deblocked - 0) read.read_job-t.last.1.1.0) (take (sections.cdef - 0) read.read_job-t.last.1.1.1.0) ≡ job_of start.args.bytes.now
+  same_job : job_with sections.frame (take (sections.units - 0) read.read_job-t.last.1.0) (take (sections.deblocked - 0) read.read_job-t.last.1.1.0) (take (sections.cdef - 0) read.read_job-t.last.1.1.1.0) ≡ job_of read.args.bytes.now
   same_job = job_lent _ _ found _ _ _ _ _ _ read.read_job-t.ensures.units_after read.read_job-t.ensures.deblocked_after read.read_job-t.ensures.cdef_after
 
 pub read_job-t-requires : goal.read_job-t-requires
@@ -52,11 +49,11 @@ pub slice_bounds-cdef-end : goal.slice_bounds-cdef-end
 slice_bounds-cdef-end c = let k = c.before.before.before in omega (arith, (found k).few_cdef, cdef_long k)
 
 pub slice_bounds-work-end-in-Done-2 : goal.slice_bounds-work-end-in-Done-2
-slice_bounds-work-end-in-Done-2 c = let k = c.before.before.before.before in omega (arith, (found k).few_cdef, (start k).requires)
+slice_bounds-work-end-in-Done-2 c = let k = c.before.before.before.before in omega (arith, (found k).few_cdef, k.requires)
 
 pub work-requires : goal.work-requires
 work-requires c = let k = c.before.before.before.before.before in let f = found k in
-    (bounds_lent _ _ f _ (same_job k), length-take-le ((sections k).cdef - 0) (start k).args.out.now (omega (arith, f.few_cdef, (start k).requires)) ∙ sym (length-take-le ((sections k).cdef - 0) (read k).read_job-t.new.1.1.1.0 (omega (arith, f.few_cdef, cdef_long k))))
+    (bounds_lent _ _ f _ (same_job k), length-take-le ((sections k).cdef - 0) k.args.out.now (omega (arith, f.few_cdef, k.requires)) ∙ sym (length-take-le ((sections k).cdef - 0) (read k).read_job-t.new.cdef.0 (omega (arith, f.few_cdef, cdef_long k))))
 
 pub returns-in-Refused : goal.returns-in-Refused
 returns-in-Refused c = let q = sym (ap of_job_read c.in-Refused.is) ∙ c.read_job-t.ensures.result_value in let n = job_refused c.in-Refused.why in record { result_value = run_refused _ _ n q; out_after = rows_refused _ _ n q _ }

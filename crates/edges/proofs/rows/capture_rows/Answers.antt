@@ -10,6 +10,9 @@ use Rattle.standard.specs.Stripes as defined
 use Rattle.standard.specs.Planes.{edge_row}
 use Rattle.frames.proofs.Legal.{halved}
 use Rattle.edges.proofs.Laws.{some_stripe, few_stripes, rows_room, edge_in, captured_is}
+use Rattle.edges.proofs.rows.capture_rows.Lts as lts
+use Rattle.edges.proofs.rows.capture_rows.Reads as reads
+use Rattle.edges.proofs.rows.capture_rows.Tie as tie
 use Rattle.edges.proofs.rows.capture_rows.Goals as goal
 
 -- few boundaries
@@ -29,7 +32,7 @@ module _ (c : goal.In-loop-k) where
   as_long : length c.loop-k.edges ≡ length start.args.edges.now
   as_long = ap length c.loop-k.invariant.2 ∙ rows_length _ _ _ _ _ _
 
-row : (c : goal.After-edge_row-y) → c.edge_row-y.result * (start c.before).args.w + (start c.before).args.w ≤ length (start c.before).args.deblocked.now
+row : (c : lts.After-edge_row tie.the-claims reads.Pre reads.Post goal.the-invariant-loop-k goal.the-decreases-loop-k tie.handed_clauses) → c.edge_row-y.result * (start c.before).args.w + (start c.before).args.w ≤ length (start c.before).args.deblocked.now
 row c = let s = start c.before in omega (arith, row_le {y = c.edge_row-y.result} {h = s.args.h} s.args.w (omega (arith, c.edge_row-y.ensures, edge_in s.args.sub_y s.args.h (k c.before / 4 + 1) (k c.before % 4) s.requires.sub_y_bound.1)), s.requires.deblocked_len.0)
 
 pub stripes-requires : goal.stripes-requires

@@ -5,9 +5,12 @@ use Rattle.standard.specs.Answers.{refusal_number}
 use Rattle.standard.specs.Refusals.{no1, no2, no4}
 use Rattle.edges.proofs.Numbers.{gives_1, gives_2, gives_4, gives_4_wide}
 use borrow.Author.Rules.{rules}
+use Rattle.edges.proofs.tests.capture_tests.Lts as lts
+use Rattle.edges.proofs.tests.capture_tests.Reads as reads
+use Rattle.edges.proofs.tests.capture_tests.Tie as tie
 use Rattle.edges.proofs.tests.capture_tests.Goals as goal
 
-module _ (k : goal.After-bad_side-wide) {b : Bool} where
+module _ (k : lts.After-bad_side2 tie.the-claims reads.Pre reads.Post) {b : Bool} where
   is_1 : k.bad_depth-depth.result ≡ b → no1 k.args.f.depth ≡ b
   is_1 e = sym k.bad_depth-depth.ensures ∙ e
 

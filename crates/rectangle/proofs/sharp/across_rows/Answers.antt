@@ -15,6 +15,9 @@ use Rattle.fetch.specs.Source.{source_cell}
 use Rattle.fetch.proofs.Laws.{source_long}
 use Rattle.wiener.specs.Passes.{biased}
 use Rattle.rectangle.proofs.SharpLaws.{handed_value}
+use Rattle.rectangle.proofs.sharp.across_rows.Lts as lts
+use Rattle.rectangle.proofs.sharp.across_rows.Reads as reads
+use Rattle.rectangle.proofs.sharp.across_rows.Tie as tie
 use Rattle.rectangle.proofs.sharp.across_rows.Goals as goal
 
 module _ (c : goal.In-loop-k) where
@@ -35,7 +38,7 @@ in_plane : (c : goal.After-near-y) → c.near-y.result < c.args.h
 in_plane c = omega (arith, c.near-y.ensures)
 
 -- and what is handed out is w long, of legal samples, and gives the definition's middle values
-module _ (c : goal.After-source_row-row) where
+module _ (c : lts.After-source_row tie.the-claims reads.Pre reads.Post goal.the-invariant-loop-k goal.the-decreases-loop-k tie.handed_clauses) where
   abbrev st : goal.Start
   st = c.before.before.before.before
 

@@ -10,3 +10,6 @@ product c = mul_small 64 383 c.requires.1 c.requires.0
 
 pub overflow_add-result-2 : goal.overflow_add-result-2
 overflow_add-result-2 c = omega (arith, product c.before, c.six_b.ensures)
+
+pub six_b-requires : goal.six_b-requires
+six_b-requires c = search rules

@@ -10,3 +10,6 @@ product c = mul_small 64 383 c.requires.1 c.requires.0
 
 pub overflow_add-result-3 : goal.overflow_add-result-3
 overflow_add-result-3 c = omega (arith, product c.before, c.cross_a.ensures)
+
+pub cross_a-requires : goal.cross_a-requires
+cross_a-requires c = search rules

@@ -16,3 +16,6 @@ overflow_add-result-4 c = omega (arith, product c.before, c.lines.ensures)
 
 pub overflow_add-result-6 : goal.overflow_add-result-6
 overflow_add-result-6 c = omega (arith, product c.before, c.lines.ensures)
+
+pub lines-requires : goal.lines-requires
+lines-requires c = search rules

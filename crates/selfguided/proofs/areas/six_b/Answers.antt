@@ -10,3 +10,6 @@ product c = mul_small 64 383 c.requires.1 c.requires.0
 
 pub overflow_add-result-2 : goal.overflow_add-result-2
 overflow_add-result-2 c = omega (arith, product c.before, c.six_a.ensures)
+
+pub six_a-requires : goal.six_a-requires
+six_a-requires c = search rules

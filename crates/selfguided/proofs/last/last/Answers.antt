@@ -7,9 +7,12 @@ use lib.IntN.{pos}
 use Rattle.laws.specs.Rows.{rows, rows_none, rows_more, rows_length}
 use Rattle.standard.specs.SelfGuided.{self_guided}
 use Rattle.selfguided.proofs.GuidedLaws.{window_at}
+use Rattle.selfguided.proofs.last.last.Lts as lts
+use Rattle.selfguided.proofs.last.last.Reads as reads
+use Rattle.selfguided.proofs.last.last.Tie as tie
 use Rattle.selfguided.proofs.last.last.Goals as goal
 
-module _ (c : goal.In-loop-i) where
+module _ (c : lts.In-loop tie.the-claims reads.Pre reads.Post goal.the-invariant-loop-i goal.the-decreases-loop-i) where
   abbrev a : goal.Start
   a = c.before.before
 

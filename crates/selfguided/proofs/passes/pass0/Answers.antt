@@ -10,9 +10,12 @@ use Rattle.selfguided.specs.Areas.{lines, six_a, six_b, used}
 use Rattle.selfguided.specs.Passes.{SixSetting, SixRow, Sixed, counted}
 use Rattle.selfguided.proofs.SixLaws.{sixed_none, six_setting, sixed_more}
 use Rattle.selfguided.proofs.WindowLaws.{at_places, of_places, places_small}
+use Rattle.selfguided.proofs.passes.pass0.Lts as lts
+use Rattle.selfguided.proofs.passes.pass0.Reads as reads
+use Rattle.selfguided.proofs.passes.pass0.Tie as tie
 use Rattle.selfguided.proofs.passes.pass0.Goals as goal
 
-module _ (c : goal.In-loop-k) where
+module _ (c : lts.In-loop tie.the-claims reads.Pre reads.Post goal.the-invariant-loop-k goal.the-decreases-loop-k) where
   abbrev a : goal.Start
   a = c.before.before.before.before.before
 

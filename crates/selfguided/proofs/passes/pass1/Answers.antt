@@ -11,9 +11,12 @@ use Rattle.selfguided.specs.Areas.{lines, cross_a, cross_b, used}
 use Rattle.selfguided.specs.Passes.{Crossed}
 use Rattle.selfguided.proofs.CrossLaws.{crossed_none, cross_setting, crossed_more}
 use Rattle.selfguided.proofs.WindowLaws.{at_places, of_places, places_small}
+use Rattle.selfguided.proofs.passes.pass1.Lts as lts
+use Rattle.selfguided.proofs.passes.pass1.Reads as reads
+use Rattle.selfguided.proofs.passes.pass1.Tie as tie
 use Rattle.selfguided.proofs.passes.pass1.Goals as goal
 
-module _ (c : goal.In-loop-y) where
+module _ (c : lts.In-loop tie.the-claims reads.Pre reads.Post goal.the-invariant-loop-y goal.the-decreases-loop-y) where
   abbrev a : goal.Start
   a = c.before.before.before.before.before
 

@@ -6,9 +6,12 @@ use Rattle.laws.specs.Congruence.{ap2}
 use Rattle.laws.specs.SignedCode.{Expression, ranged, Lit, ◌⊝◌, lhs, safe, is_exact, bounded}
 use Rattle.laws.specs.ReadBack.{returned, abs_at}
 use borrow.Author.Rules.{rules}
+use Rattle.selfguided.proofs.projection.mix_of.Lts as lts
+use Rattle.selfguided.proofs.projection.mix_of.Reads as reads
+use Rattle.selfguided.proofs.projection.mix_of.Tie as tie
 use Rattle.selfguided.proofs.projection.mix_of.Goals as goal
 
-module _ (s : goal.Start) where
+module _ (s : lts.Start tie.the-claims reads.Pre reads.Post) where
   abbrev first : Expression
   first = ranged s.args.weights.w0 s.requires.w0_low s.requires.w0_high
 

@@ -65,3 +65,6 @@ returns c = let a = s c.before in let m = a.args.m in
     returned w32 c.clip1.type_inv (c.clip1.ensures ∙ ap pos (ap2 (λ (t : ℕ) (x : ℤ). clip_to t x)
     (ap nat_abs (is_exact w32 (top a) tt ∙ a.requires.3.top_is))
     (is_exact w32 (Shr (e a) 11) tt ∙ ap (λ (x : ℤ). shr_z (x +ℤ pos 1024) 2048) (two_products m.w0 m.w1 m.w2 (pos (16 * a.args.u)) (pos a.args.f0) (pos a.args.f1) a.requires.3.w2_is))))
+
+pub overflow_mul-v : goal.overflow_mul-v
+overflow_mul-v c = search rules
