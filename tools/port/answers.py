@@ -84,7 +84,8 @@ def split_tuple(text):
         if depth == 0:
             if number != len(text) - 1:
                 return None
-            parts.append(text[at:number])
+            if text[at:number].strip():
+                parts.append(text[at:number])
             return parts if len(parts) > 1 else None
     return None
 
@@ -193,10 +194,10 @@ class Turn:
         if more[:1] == ["inv"]:
             more = ["invariant", *more[1:]]
         callee = self.n.raw["places"][number][3]
-        if more[:1] in (["new"], ["exit"]) and callee and len(more) > 1 and more[1] in "01":
+        if more[:1] in (["new"], ["exit"], ["last"], ["auto"]) and callee and len(more) > 1 and more[1] in "01":
             found = fold(self.n.raw["params"][callee], more[1:])
             if found:
-                more = ["new", found[0], *more[1 + found[1]:]]
+                more = ["auto" if more[0] == "auto" else "new", found[0], *more[1 + found[1]:]]
         clauses = self.n.raw["clauses"][number]
         if clauses and more[:1] == ["ensures"] and len(more) > 1:
             found = fold(clauses["fields"], more[1:])
@@ -208,7 +209,7 @@ class Turn:
         """The argument of a helper, led back to the place that the helper is about."""
         it = re.fullmatch(r"([\w'₀]+)((?:\.before)*)", arg)
         wanted = self.params.get(helper)
-        if not it or it[1] not in env or not wanted or env[it[1]] == "@":
+        if not it or it[1] not in env or not wanted or env[it[1]] == "@" or isinstance(env[it[1]], tuple):
             return arg
         count = self.back(env[it[1]], wanted)
         if count is None:
@@ -240,9 +241,20 @@ class Turn:
                 whole = re.match(rf"(?:\({word} [\w'.-]+\)|{word})(?:\.before)*\.(?:pre|requires) in\b", rest)
                 back = re.match(rf"({word})((?:\.before)*)(?= in\b)", rest)
                 of = re.match(rf"({word}) ({word}(?:\.before)*)(?= in\b)", rest)
-                if whole and self.n.pre:
+                of_step = re.match(rf"({word})((?:\.[\w'₀-]+)+)(?= in\b)", rest)
+                if of_step and of_step[1] in env and env[of_step[1]] not in ("@", None) and not isinstance(env[of_step[1]], tuple):
+                    parts = [w for w in of_step[2].split(".")[1:] if w != "before"]
+                    here = env[of_step[1]]
+                    while len(parts) == 1 and here:
+                        if self.n.places[here][2] == re.sub("-lem$", "", norm(parts[0])):
+                            env[name] = ("step", here, parts[0])
+                            break
+                        here = self.n.parent(here)
+                if isinstance(env.get(name), tuple):
+                    pass
+                elif whole and self.n.pre:
                     env[name] = "@"
-                elif back and back[1] in env:
+                elif back and back[1] in env and env[back[1]] != "@" and not isinstance(env[back[1]], tuple):
                     # Where the value goes to a helper, the helper's place is meant; elsewhere any later place serves.
                     heads = [h for h in re.findall(rf"(?<![\w'.₀-])({word}) {re.escape(name)}(?![\w'.₀-])", rest) if h in self.params]
                     target = self.params[heads[0]] if heads else None
@@ -268,7 +280,7 @@ class Turn:
                 continue
             base, fields = it["base"], it["path"].split(".")[1:]
             before = re.search(rf"(?<![\w'.₀-])({word}) $", out)
-            if base in env and env[base] != "@" and set(fields) == {"before"}:
+            if base in env and env[base] != "@" and not isinstance(env[base], tuple) and set(fields) == {"before"}:
                 if before and before[1] in self.params:
                     out += self.handed(before[1], base + it["path"], env)
                 else:
@@ -282,6 +294,10 @@ class Turn:
                 base = f"({it['head']} {self.handed(it['head'], it['arg'], env)})"
             if place == "@":
                 out += ".".join([base, *self.own(fields)])
+                continue
+            if isinstance(place, tuple):
+                number = self.n.places[place[1]][4]
+                out += ".".join([base, *self.step(place[1], number, "", [place[2], *fields])[1:]])
                 continue
             if not place:
                 if fields[0] in ("pre", "requires") and base not in env:
@@ -500,6 +516,10 @@ def turn_file(path, names, own_ensures, module):
         if place != "Start" or place in stands:
             continue
         fields = r"(args|requires|ranges)"
+        takes = [h for h, p in turn.params.items() if p == "Start"]
+        whole_text = "\n".join(rest)
+        if any(re.search(rf"(?<![\w'.]){re.escape(h)} (?:{re.escape(helper)}|\({re.escape(helper)} |\w+)(?![\w'.])", whole_text) for h in takes) and takes:
+            continue
         new = []
         for it in rest:
             scope = re.search(rf"(?m)^  (?:abbrev |pub )*{re.escape(helper)} : goal\.Start\n  {re.escape(helper)} = (\w+)(?:\.before)*\n+", it)

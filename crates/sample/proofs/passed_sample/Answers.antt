@@ -15,22 +15,16 @@ use Rattle.units.proofs.Legal.{legal_kind}
 use Rattle.sample.specs.Seen.{seen_at}
 use Rattle.sample.proofs.Numbers.{Passed, passed, unpacked, seen_bytes, sample_done}
 use borrow.Author.Rules.{rules}
-use Rattle.sample.proofs.passed_sample.Lts as lts
-use Rattle.sample.proofs.passed_sample.Reads as reads
-use Rattle.sample.proofs.passed_sample.Tie as tie
 use Rattle.sample.proofs.passed_sample.Goals as goal
 
-plain : (s : lts.Start tie.the-claims reads.Pre reads.Post tie.handed_clauses) → Passed s.args.depth s.args.entry.now s.args.bytes.now
-plain s = passed _ _ _ s.requires.bytes_value
-
 pub unpack-requires : goal.unpack-requires
-unpack-requires c = (omega arith, (plain c.before.before).long)
+unpack-requires c = (omega arith, (passed c.args.depth c.args.entry.now c.args.bytes.now c.requires.bytes_value).long)
 
 pub unit_at-unit-requires : goal.unit_at-unit-requires
-unit_at-unit-requires c = record { e_in_bounds = omega (arith, c.requires.len); t = (plain c.before.before.before.before.before).legal }
+unit_at-unit-requires c = record { e_in_bounds = omega (arith, c.requires.len); t = (passed c.args.depth c.args.entry.now c.args.bytes.now c.requires.bytes_value).legal }
 
 pub kind_sample-requires : goal.kind_sample-requires
-kind_sample-requires c = let u = c.unpack.ensures in let s = c.before.before.before.before.before.before.before.before in (omega (arith, ap length u ∙ stamp_length _ _ _ _), subst LegalKind (sym c.unit_at-unit.ensures) (legal_kind 0 _ 0 (plain s).legal), unpacked _ _ _ (plain s) _ _ u (omega arith) _ c.depth_of.ensures)
+kind_sample-requires c = let u = c.unpack.ensures in let p = passed c.args.depth c.args.entry.now c.args.bytes.now c.requires.bytes_value in (omega (arith, ap length u ∙ stamp_length _ _ _ _), subst LegalKind (sym c.unit_at-unit.ensures) (legal_kind 0 _ 0 p.legal), unpacked _ _ _ p _ _ u (omega arith) _ c.depth_of.ensures)
 
 pub returns : goal.returns
 returns c = let s = c in returned w32 c.kind_sample.type_inv (c.kind_sample.ensures ∙ ap2 (λ (d : Depth) (k : Kind). pos (restored d s.args.row k (seen_at c.unpack.new.s))) c.depth_of.ensures c.unit_at-unit.ensures ∙ sample_done _ _ _ _ _ s.requires.bytes_value (seen_bytes _ _ _ c.unpack.ensures (omega arith)))

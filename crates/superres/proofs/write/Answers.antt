@@ -24,3 +24,6 @@ scale-requires c = let e = sym c.is_copy.ensures ∙ c.if-is_copy.false in let k
 
 pub returns : goal.returns
 returns c = c.scale.ensures ∙ plan_written (known c.before.before.before.before.before.before) (sym c.is_copy.ensures ∙ c.if-is_copy.false) c.plan_of-p.ensures
+
+pub is_copy-requires : goal.is_copy-requires
+is_copy-requires c = search rules

@@ -52,7 +52,7 @@ pub loop-x-preserved : goal.loop-x-preserved
 loop-x-preserved c = let i = c in let l = i.before.before.before.before.before.before in let s = a l in let v = l.loop-x.invariant in (
   omega (arith, v.0),
   omega (arith, i.loop-x-test.true),
-  c.wiener_block.auto.1.1.1.1.1.1.1.1.1.1.0 ∙ v.2,
+  c.wiener_block.auto.s ∙ v.2,
   paint_on {A = ℤ} s.args.x0 s.args.y0 l.loop-x.x 64 s.args.rh s.args.w (shown s) s.args.out.now l.loop-x.out _ v.0 v.3 c.wiener_block.ensures (omega (arith, s.requires.w_in_bounds.5.right, i.loop-x-test.true)),
 
 )
@@ -68,10 +68,10 @@ wiener_block-requires-2 c = let e = c in let l = e.before.before.before in let s
 )
 
 pub shape_of-out : goal.shape_of-out
-shape_of-out c = let e = c in c.wiener_block-2.auto.0 ∙ as_long e.before.before.before.before.before.before
+shape_of-out c = let e = c in c.wiener_block-2.auto.out ∙ as_long e.before.before.before.before.before.before
 
 pub shape_of-s : goal.shape_of-s
-shape_of-s c = let e = c in c.wiener_block-2.auto.1.1.1.1.1.1.1.1.1.1.0 ∙ e.loop-x.invariant.2
+shape_of-s c = let e = c in c.wiener_block-2.auto.s ∙ e.loop-x.invariant.2
 
 pub returns : goal.returns
 returns c = let e = c in let l = e.before.before.before.before.before.before in let s = a l in let v = l.loop-x.invariant in

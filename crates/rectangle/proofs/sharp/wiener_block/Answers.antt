@@ -27,14 +27,17 @@ module _ (s : lts.Start tie.the-claims reads.Pre reads.Post tie.handed_clauses) 
 
 -- the middle values, by plain lists
 module _ (c : lts.After-across_rows tie.the-claims reads.Pre reads.Post tie.handed_clauses) where
-  abbrev seen : Grid
-  seen = part c.args.inside.now c.args.beside.now c.args.w c.args.h c.args.r c.args.x0 c.args.y0
+  abbrev st : lts.Start tie.the-claims reads.Pre reads.Post tie.handed_clauses
+  st = c.before.before
 
-  as_long : length c.across_rows.new.0 ≡ length c.args.s.now
+  abbrev seen : Grid
+  seen = part st.args.inside.now st.args.beside.now st.args.w st.args.h st.args.r st.args.x0 st.args.y0
+
+  as_long : length c.across_rows.new.s ≡ length st.args.s.now
   as_long = ap length c.across_rows.ensures ∙ rows_length _ _ _ _ _ _
 
-  halves : Halves 0 ((c.args.rh + 6) * c.args.rw) c.across_rows.new.0
-  halves = area_halves c.args.d c.args.t seen c.args.s.now c.across_rows.new.0 c.args.rw c.args.rh c.across_rows.ensures c.requires.w_in_bounds.1
+  halves : Halves 0 ((st.args.rh + 6) * st.args.rw) c.across_rows.new.s
+  halves = area_halves st.args.d st.args.t seen st.args.s.now c.across_rows.new.s st.args.rw st.args.rh c.across_rows.ensures st.requires.w_in_bounds.1
 
 pub across_rows-requires : goal.across_rows-requires
 across_rows-requires c = let s = c in let p = s.requires.w_in_bounds in record { rw_in_bounds = (p.1, p.2, p.3, p.5, p.6, p.7); legal_taps = (s.requires.legal_taps.0, s.requires.legal_taps.1); fetchable = s.requires.fetchable }
@@ -46,10 +49,10 @@ pub overflow_add-y0 : goal.overflow_add-y0
 overflow_add-y0 c = omega (arith, inner c.before.before.before.before)
 
 pub down_window-requires : goal.down_window-requires
-down_window-requires c = let a = c.before.before in let s = a in let p = s.requires.w_in_bounds in record { w_in_bounds = (omega (arith, whole s, p.6.right), omega (arith, as_long a), omega arith, omega arith); legal_taps = (s.requires.legal_taps.0, s.requires.legal_taps.2); halves = halves a }
+down_window-requires c = let a = c.before.before in let s = st a in let p = s.requires.w_in_bounds in record { w_in_bounds = (omega (arith, whole s, p.6.right), omega (arith, as_long a), omega arith, omega arith); legal_taps = (s.requires.legal_taps.0, s.requires.legal_taps.2); halves = halves a }
 
 pub returns : goal.returns
-returns c = let a = c.before.before.before.before in let s = a in
+returns c = let a = c.before.before.before.before in let s = st a in
     c.down_window.ensures
-    ∙ rows_same _ _ _ _ _ _ _ (λ i j p q. window_value s.args.d s.args.t (seen a) s.args.s.now a.across_rows.new.0 s.args.rw s.args.rh a.across_rows.ensures s.requires.w_in_bounds.1 i j p q
+    ∙ rows_same _ _ _ _ _ _ _ (λ i j p q. window_value s.args.d s.args.t (seen a) s.args.s.now a.across_rows.new.s s.args.rw s.args.rh a.across_rows.ensures s.requires.w_in_bounds.1 i j p q
     ∙ ap pos (wiener_part s.args.inside.now s.args.beside.now s.args.w s.args.h s.args.r s.args.x0 s.args.y0 s.args.d s.args.t i j))

@@ -28,11 +28,14 @@ module _ (s : lts.Start tie.the-claims reads.Pre reads.Post tie.handed_clauses) 
 
 -- the gathered window
 module _ (g : lts.After-gather tie.the-claims reads.Pre reads.Post tie.handed_clauses) where
-  as_long : length g.gather.last.0 ≡ length g.args.s.now
+  abbrev st : lts.Start tie.the-claims reads.Pre reads.Post tie.handed_clauses
+  st = g.before.before
+
+  as_long : length g.gather.new.dst ≡ length st.args.s.now
   as_long = ap length g.gather.ensures ∙ rows_length _ _ _ _ _ _
 
-  legal : Samples (largest g.args.d) 0 ((g.args.rh + 6) * (g.args.rw + 6)) g.gather.last.0
-  legal = gathered_samples g.args.d g.args.inside.now g.args.beside.now g.args.w g.args.h g.args.r g.requires.fetchable g.requires.w_in_bounds.7 g.args.x0 g.args.y0 (g.args.rw + 6) (g.args.rh + 6) g.args.s.now g.gather.last.0 g.gather.ensures (room st)
+  legal : Samples (largest st.args.d) 0 ((st.args.rh + 6) * (st.args.rw + 6)) g.gather.new.dst
+  legal = gathered_samples st.args.d st.args.inside.now st.args.beside.now st.args.w st.args.h st.args.r st.requires.fetchable st.requires.w_in_bounds.7 st.args.x0 st.args.y0 (st.args.rw + 6) (st.args.rh + 6) st.args.s.now g.gather.new.dst g.gather.ensures (room st)
 
 pub gather-requires : goal.gather-requires
 gather-requires c = let s = c.before in let p = s.requires.w_in_bounds in let f = s.requires.fetchable in record { m_in_bounds = (room s, p.7.wide, p.7.wide_low, p.7.high, p.7.high_low); x0_bound = (omega (arith, p.6.right, p.7.wide_low), omega (arith, p.6.low, p.7.high_low), omega arith, omega arith); reach = (f.reach, f.over_low, f.inside_low, f.under_low) }
@@ -44,9 +47,9 @@ pub overflow_add-y0 : goal.overflow_add-y0
 overflow_add-y0 c = omega (arith, inner c.before.before.before.before, c.requires.w_in_bounds.6.right)
 
 pub selfguided_window-requires : goal.selfguided_window-requires
-selfguided_window-requires c = let g = c.before.before.before in let s = g in let p = s.requires.w_in_bounds in record { le_w = (p.2, p.3, p.4, p.5, omega arith, omega (arith, as_long g, p.1)); samples = (legal g, record { fits = λ i h. fits s i h }, s.requires.legal_weights.0, s.requires.legal_weights.1) }
+selfguided_window-requires c = let g = c.before.before.before in let s = st g in let p = s.requires.w_in_bounds in record { le_w = (p.2, p.3, p.4, p.5, omega arith, omega (arith, as_long g, p.1)); samples = (legal g, record { fits = λ i h. fits s i h }, s.requires.legal_weights.0, s.requires.legal_weights.1) }
 
 pub returns : goal.returns
-returns c = let g = c.before.before.before.before.before.before in let s = g in
+returns c = let g = c.before.before.before.before.before.before in let s = st g in
     c.selfguided_window.ensures
-    ∙ rows_same _ _ _ _ _ _ _ (λ i j p q. ap pos (guided_part s.args.d s.args.inside.now s.args.beside.now s.args.w s.args.h s.args.r s.requires.fetchable s.requires.w_in_bounds.7 s.args.x0 s.args.y0 (s.args.rw + 6) (s.args.rh + 6) s.args.s.now g.gather.new.0 g.gather.ensures (room s) s.args.weights i j (omega arith) (omega arith)))
+    ∙ rows_same _ _ _ _ _ _ _ (λ i j p q. ap pos (guided_part s.args.d s.args.inside.now s.args.beside.now s.args.w s.args.h s.args.r s.requires.fetchable s.requires.w_in_bounds.7 s.args.x0 s.args.y0 (s.args.rw + 6) (s.args.rh + 6) s.args.s.now g.gather.new.dst g.gather.ensures (room s) s.args.weights i j (omega arith) (omega arith)))

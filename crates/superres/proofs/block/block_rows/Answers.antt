@@ -18,7 +18,7 @@ pub overflow_add-y : goal.overflow_add-y
 overflow_add-y c = omega (arith, c.requires.fit.tall)
 
 pub loop-y-preserved : goal.loop-y-preserved
-loop-y-preserved c = let s = c in let i = c.loop-y in let k = c.block_row in (omega arith, omega (arith, k.auto.1.1.1.1.1.0, i.invariant.1), omega (arith, k.auto.1.1.1.1.1.1.0, i.invariant.2), rows_more _ _ _ _ _ _ _ _ _ _ k.ensures i.invariant.3 (omega arith) (λ x h. ap (λ (j : ℕ). scaled s.args.p.top s.args.p.start s.args.p.step s.args.p.last (λ c. get_or s.args.src.now (j * s.args.p.cols + c) (pos 0)) (s.args.b.x0 + x)) (omega arith)))
+loop-y-preserved c = let s = c in let i = c.loop-y in let k = c.block_row in (omega arith, omega (arith, k.auto.r, i.invariant.1), omega (arith, k.auto.line, i.invariant.2), rows_more _ _ _ _ _ _ _ _ _ _ k.ensures i.invariant.3 (omega arith) (λ x h. ap (λ (j : ℕ). scaled s.args.p.top s.args.p.start s.args.p.step s.args.p.last (λ c. get_or s.args.src.now (j * s.args.p.cols + c) (pos 0)) (s.args.b.x0 + x)) (omega arith)))
 
 pub shape_of-out : goal.shape_of-out
 shape_of-out c = ap length c.loop-y.invariant.3 ∙ rows_length _ _ _ _ _ _

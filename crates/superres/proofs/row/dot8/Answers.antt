@@ -104,3 +104,6 @@ overflow_add-result-21 c = safe w32 (e c.before.before.before.before.before.befo
 
 pub returns : goal.returns
 returns c = let s = c.before.before.before.before.before.before.before.before.before.before.before.before.before.before.before.before in is_exact w32 (e s) tt ∙ products_dot s.requires.sized.0 s.requires.sized.1
+
+pub offset_bounds-t-f : goal.offset_bounds-t-f
+offset_bounds-t-f c = search rules
