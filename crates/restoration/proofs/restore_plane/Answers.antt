@@ -20,7 +20,7 @@ module _ (c : goal.After-write_plane-arg-in-Done-1) where
   zero = sym c.plane_tests-t.ensures ∙ ap of_stored c.in-Done.is
 
 as_long : (w : goal.After-write_plane) → length w.write_plane.new.out ≡ length w.args.out.now
-as_long w = w.write_plane.auto.1.1.1.1.0
+as_long w = w.write_plane.auto.out
 
 area : (f : Frame) {table D C : List ℤ} {out scratch : ℕ} → PlanePassed f table D C out scratch → samples f ≤ 268435456
 area f p = mul-le-mul {n₁ = plane_height f} {m₁ = plane_width f} {n₂ = 16384} {m₂ = 16384} p.legal.rows_low p.legal.cols_low

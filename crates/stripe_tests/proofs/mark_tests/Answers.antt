@@ -1,7 +1,9 @@
 -- Each return is the number of the first test that holds, at the count of stripes that the callees ensure.
 use mathlib.Core.Path.{◌≡◌, ◌∙◌, ap}
 use Rattle.standard.specs.Answers.{refusal_number}
-use mathlib.Core.Bool.{true, false}
+use mathlib.Core.Bool.{Bool, true, false}
+use mathlib.Core.List.{List}
+use Rattle.standard.specs.declared.Frame.{Frame}
 use Prim.Native.Nat.{ℕ, ◌<◌}
 use native.Mathlib.Omega.{arith}
 use borrow.Author.Tests.{eq-eqb, ne_eqb, le-leb, lt-leb}
@@ -15,60 +17,57 @@ use Rattle.stripe_tests.proofs.Laws.{here, legal, marks_long, past, told}
 use borrow.Author.Rules.{rules}
 use Rattle.stripe_tests.proofs.mark_tests.Goals as goal
 
-plain : (s : goal.Start) → LegalFrame s.args.f
-plain s = legal s.requires.0
-
 -- the count of stripes
-module _ (k : goal.After-stripes-n) where
-  many : k.stripes-n.result ≡ defined.stripes (sub_y_of k.args.f) (plane_height k.args.f)
-  many = k.stripes-n.ensures ∙ ap2 defined.stripes k.sub_of.ensures k.extent.ensures
+abbrev count : Frame → ℕ
+count f = defined.stripes (sub_y_of f) (plane_height f)
 
-marks_is : (c : goal.After-bad_marks) → c.bad_marks.result ≡ no12 (defined.stripes (sub_y_of c.args.f) (plane_height c.args.f)) c.args.marks.now
-marks_is c = c.bad_marks.ensures ∙ ap (λ (n : ℕ). no12 n c.args.marks.now) (many c.before)
+many : (f : Frame) {n y h : ℕ} → n ≡ defined.stripes y h → y ≡ sub_y_of f → h ≡ plane_height f → n ≡ count f
+many f p q r = p ∙ ap2 defined.stripes q r
 
--- what each test left, at the place after it
-module _ (c : goal.Else-bad_marks) where
-  abbrev origin : goal.Start
-  origin = start c.before.before
-
-  marked_well : no12 (defined.stripes (sub_y_of origin.args.f) (plane_height origin.args.f)) origin.args.marks.now ≡ false
-  marked_well = told (marks_is c.before) c.if-bad_marks.false
-
-there : (c : goal.Else-n-s) → let s = c.before in s.args.s < defined.stripes (sub_y_of s.args.f) (plane_height s.args.f)
-there c = omega (arith, c.if-n-s.false, many c.before.before.before)
-
-in_count : (c : goal.Else-n-s) → let s = c.before in leb (defined.stripes (sub_y_of s.args.f) (plane_height s.args.f)) s.args.s ≡ false
-in_count c = lt-leb _ _ (there c)
-
-missing : (c : goal.Then-n-s) → let s = c.before in leb (defined.stripes (sub_y_of s.args.f) (plane_height s.args.f)) s.args.s ≡ true
-missing c = let s = c.before in le-leb (defined.stripes (sub_y_of s.args.f) (plane_height s.args.f)) s.args.s (omega (arith, c.if-n-s.true, many c.before.before.before))
-
-clear : (c : goal.Else-marks-s-eq1) → let s = c.before.before.before in eqb (get_or s.args.marks.now s.args.s 0) 1 ≡ false
-clear c = ne_eqb _ _ c.if-marks-s-eq1.false
+marks_is : (f : Frame) (marks : List ℕ) {n : ℕ} {b : Bool} → n ≡ count f → b ≡ no12 n marks → b ≡ no12 (count f) marks
+marks_is f marks p q = q ∙ ap (λ (n : ℕ). no12 n marks) p
 
 pub extent-requires : goal.extent-requires
-extent-requires c = let l = plain c.before.before in (l.sub_y, l.high)
+extent-requires c = let l = legal c.requires.0 in (l.sub_y, l.high)
 
 pub stripes-n-requires : goal.stripes-n-requires
-stripes-n-requires c = let l = plain c.before.before.before in (omega (arith, c.sub_of.ensures, l.own_y), omega (arith, c.extent.ensures, l.rows), omega (arith, c.extent.ensures, l.rows_low))
+stripes-n-requires c = let l = legal c.requires.0 in (omega (arith, c.sub_of.ensures, l.own_y), omega (arith, c.extent.ensures, l.rows), omega (arith, c.extent.ensures, l.rows_low))
 
 pub returns-then-bad_marks : goal.returns-then-bad_marks
 unfolding refusal_number
-returns-then-bad_marks c = here _ _ _ (told (marks_is c.before) c.if-bad_marks.true)
+returns-then-bad_marks c =
+    let n = many c.args.f c.stripes-n.ensures c.sub_of.ensures c.extent.ensures in
+    here _ _ _ (told (marks_is c.args.f c.args.marks.now n c.bad_marks.ensures) c.if-bad_marks.true)
 
 pub returns-then-n-s : goal.returns-then-n-s
 unfolding refusal_number
-returns-then-n-s c = let k = c.before in past _ _ _ _ (marked_well k) (here _ _ _ (missing c))
+returns-then-n-s c =
+    let n = many c.args.f c.stripes-n.ensures c.sub_of.ensures c.extent.ensures in
+    let w = told (marks_is c.args.f c.args.marks.now n c.bad_marks.ensures) c.if-bad_marks.false in
+    past _ _ _ _ w (here _ _ _ (le-leb (count c.args.f) c.args.s (omega (arith, c.if-n-s.true, n))))
 
 pub bounds-marks-s : goal.bounds-marks-s
-bounds-marks-s c = let e = c.before in omega (arith, there e, marks_long _ _ (marked_well e.before))
+bounds-marks-s c =
+    let n = many c.args.f c.stripes-n.ensures c.sub_of.ensures c.extent.ensures in
+    let w = told (marks_is c.args.f c.args.marks.now n c.bad_marks.ensures) c.if-bad_marks.false in
+    omega (arith, c.if-n-s.false, n, marks_long _ _ w)
 
 pub returns-then-marks-s-eq1 : goal.returns-then-marks-s-eq1
 unfolding refusal_number
-returns-then-marks-s-eq1 c = let e = c.before.before in past _ _ _ _ (marked_well e.before) (past _ _ _ _ (in_count e) (here _ _ _ (eq-eqb _ _ c.if-marks-s-eq1.true)))
+returns-then-marks-s-eq1 c =
+    let n = many c.args.f c.stripes-n.ensures c.sub_of.ensures c.extent.ensures in
+    let w = told (marks_is c.args.f c.args.marks.now n c.bad_marks.ensures) c.if-bad_marks.false in
+    let t : c.args.s < count c.args.f = omega (arith, c.if-n-s.false, n) in
+    past _ _ _ _ w (past _ _ _ _ (lt-leb _ _ t) (here _ _ _ (eq-eqb _ _ c.if-marks-s-eq1.true)))
 
 pub last_tests-requires : goal.last_tests-requires
-last_tests-requires c = let e = c.before.before in let p = e.requires in (p.0, there e, p.1, p.2)
+last_tests-requires c =
+    let n = many c.args.f c.stripes-n.ensures c.sub_of.ensures c.extent.ensures in
+    (c.requires.0, omega (arith, c.if-n-s.false, n), c.requires.1, c.requires.2)
 
 pub returns : goal.returns
-returns c = let d = c.before in let e = d.before.before in past _ _ _ _ (marked_well e.before) (past _ _ _ _ (in_count e) (past _ _ _ _ (clear d) c.last_tests.ensures))
+returns c =
+    let n = many c.args.f c.stripes-n.ensures c.sub_of.ensures c.extent.ensures in
+    let w = told (marks_is c.args.f c.args.marks.now n c.bad_marks.ensures) c.if-bad_marks.false in
+    let t : c.args.s < count c.args.f = omega (arith, c.if-n-s.false, n) in
+    past _ _ _ _ w (past _ _ _ _ (lt-leb _ _ t) (past _ _ _ _ (ne_eqb _ _ c.if-marks-s-eq1.false) c.last_tests.ensures))

@@ -36,11 +36,11 @@ pub overflow_sub-stop : goal.overflow_sub-stop
 overflow_sub-stop c = omega (arith, c.loop-x.invariant.1)
 
 pub wiener_block-requires : goal.wiener_block-requires
-wiener_block-requires c = let l = c.before.before.before in let s = a l in let p = s.requires.w_in_bounds in (
-  (omega (arith, p.0, as_long l), few l 64 (omega arith), omega arith, omega arith, p.3, p.4, record { right = omega (arith, p.5.right, c.loop-x-test.true); low = p.5.low }, p.6),
-  ((s.requires.legal_taps.0, s.requires.legal_taps.1, s.requires.legal_taps.2), s.requires.fetchable),
-
-)
+wiener_block-requires c = let l = c.before.before.before in let s = a l in let p = s.requires.w_in_bounds in record {
+  w_in_bounds = (omega (arith, p.0, as_long l), few l 64 (omega arith), omega arith, omega arith, p.3, p.4, record { right = omega (arith, p.5.right, c.loop-x-test.true); low = p.5.low }, p.6);
+  legal_taps = (s.requires.legal_taps.0, s.requires.legal_taps.1, s.requires.legal_taps.2);
+  fetchable = s.requires.fetchable;
+}
 
 pub overflow_add-x : goal.overflow_add-x
 overflow_add-x c = let i = c in omega (arith, (a i.before.before.before.before.before.before).requires.w_in_bounds.5.right, i.loop-x-test.true)
@@ -61,11 +61,11 @@ pub overflow_sub-n : goal.overflow_sub-n
 overflow_sub-n c = omega (arith, c.loop-x.invariant.1)
 
 pub wiener_block-requires-2 : goal.wiener_block-requires-2
-wiener_block-requires-2 c = let e = c in let l = e.before.before.before in let s = a l in let p = s.requires.w_in_bounds in let v = l.loop-x.invariant in (
-  (omega (arith, p.0, as_long l), few l _ (omega (arith, e.loop-x-test.false)), omega (arith, v.1), omega (arith, e.loop-x-test.false), p.3, p.4, record { right = omega (arith, p.5.right, v.1); low = p.5.low }, p.6),
-  ((s.requires.legal_taps.0, block_taps _ (omega (arith, e.loop-x-test.false)) s.requires.legal_taps.1, block_taps _ (omega (arith, e.loop-x-test.false)) s.requires.legal_taps.2), s.requires.fetchable),
-
-)
+wiener_block-requires-2 c = let e = c in let l = e.before.before.before in let s = a l in let p = s.requires.w_in_bounds in let v = l.loop-x.invariant in record {
+  w_in_bounds = (omega (arith, p.0, as_long l), few l _ (omega (arith, e.loop-x-test.false)), omega (arith, v.1), omega (arith, e.loop-x-test.false), p.3, p.4, record { right = omega (arith, p.5.right, v.1); low = p.5.low }, p.6);
+  legal_taps = (s.requires.legal_taps.0, block_taps _ (omega (arith, e.loop-x-test.false)) s.requires.legal_taps.1, block_taps _ (omega (arith, e.loop-x-test.false)) s.requires.legal_taps.2);
+  fetchable = s.requires.fetchable;
+}
 
 pub shape_of-out : goal.shape_of-out
 shape_of-out c = let e = c in c.wiener_block-2.auto.out ∙ as_long e.before.before.before.before.before.before

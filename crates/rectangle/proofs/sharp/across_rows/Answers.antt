@@ -67,10 +67,10 @@ pub middle_row-requires : goal.middle_row-requires
 middle_row-requires c = let i = c.before.before.before.before in let s = a i in record { n_in_bounds = (omega (arith, long i, as_long i), omega (arith, row_long c.before.before), omega (arith, row_long c.before.before), omega arith, omega arith); legal_taps = s.requires.legal_taps; samples = row_legal c.before.before }
 
 pub loop-k-preserved : goal.loop-k-preserved
-loop-k-preserved c = let i = c.before.before.before.before.before.before in (
+loop-k-preserved c = let i = c.before.before.before.before.before.before.before in (
   omega arith,
   rows_more _ _ _ _ _ _ _ _ _ _ c.middle_row.ensures i.loop-k.invariant.1 (omega arith)
-      (λ x h. handed_value (a i).args.d (a i).args.t (a i).args.inside.now (a i).args.beside.now (a i).args.w (a i).args.h (a i).args.r (a i).args.x0 (a i).args.y0 (k i) _ _ c.source_row-row.ensures c.near-y.ensures (row_long c.before.before.before.before) x),
+      (λ x h. handed_value (a i).args.d (a i).args.t (a i).args.inside.now (a i).args.beside.now (a i).args.w (a i).args.h (a i).args.r (a i).args.x0 (a i).args.y0 (k i) _ _ c.source_row-row.ensures c.near-y.ensures (row_long c.before.before.before.before.before) x),
 
 )
 

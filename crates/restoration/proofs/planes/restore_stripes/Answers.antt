@@ -67,7 +67,7 @@ loop-at-smaller c = omega (arith, c.loop-at-test.true)
 pub loop-at-preserved : goal.loop-at-preserved
 loop-at-preserved c = let w = c.before.before.before.before.before.before in let i = w in let t = i.before.before.before in let s = t in let p = s.requires in let v = i.loop-at.invariant in (
   omega (arith, w.loop-at-test.true),
-  c.restore_rectangles.auto.1.1.1.1.1.1.1.0 ∙ v.1,
+  c.restore_rectangles.auto.s ∙ v.1,
   stripe_added p.asked.0 s.args.deblocked.now s.args.cdef.now i.loop-at.at (turn w) _ (source w) _ (deep t) s.args.out.now i.loop-at.out _ v.2 c.restore_rectangles.ensures,
 
 )

@@ -60,7 +60,7 @@ pub loop-k-preserved : goal.loop-k-preserved
 loop-k-preserved c = let i = c in let u = i.before.before.before.before.before.before.before in let s = st u in let p = s.requires.asked in let v = i.loop-k.invariant in let l = p.0.legal in let k< = c.loop-k-test.true in (
   omega (arith, v.0),
   omega (arith, k<),
-  c.restore_unit.auto.1.1.1.1.1.1.1.0 ∙ v.2,
+  c.restore_unit.auto.s ∙ v.2,
   painted_more _ _ _ _ _ _ _ (cover (sized p.0) (plane_height s.args.f) (plane_width s.args.f) l.rows l.cols) i.loop-k.k _ _ (below_all s.args.f s.args.at (cols u) i.loop-k.k (ec u) p.1 k<) v.0 p.2 v.3 c.restore_unit.ensures,
 
 )

@@ -5,9 +5,12 @@ use lib.Dec.{ltb}
 use Rattle.stripe_tests.proofs.Laws.{untyped, as_typed, or_left, or_right}
 use Rattle.standard.specs.Refusals.{copy_need, plane_height, plane_width, scratch_need, sub_y_of}
 use borrow.Author.Rules.{rules}
+use Rattle.stripe_tests.proofs.conditions.typed_rooms.Lts as lts
+use Rattle.stripe_tests.proofs.conditions.typed_rooms.Reads as reads
+use Rattle.stripe_tests.proofs.conditions.typed_rooms.Tie as tie
 use Rattle.stripe_tests.proofs.conditions.typed_rooms.Goals as goal
 
-module _ (s : goal.Start) where
+module _ (s : lts.Start tie.the-claims reads.Pre reads.Post) where
   abbrev short : Bool
   short = ltb s.args.scratch (scratch_need (sub_y_of s.args.f) (plane_height s.args.f) (plane_width s.args.f))
 

@@ -14,6 +14,9 @@ use Rattle.standard.specs.Calls.{own_rows}
 use Rattle.frames.proofs.Legal.{LegalFrame}
 use Rattle.stripe_tests.proofs.Laws.{edge_room, legal, or_first, or_second, or_third, told}
 use borrow.Author.Rules.{rules}
+use Rattle.stripe_tests.proofs.rows.bad_rows.Lts as lts
+use Rattle.stripe_tests.proofs.rows.bad_rows.Reads as reads
+use Rattle.stripe_tests.proofs.rows.bad_rows.Tie as tie
 use Rattle.stripe_tests.proofs.rows.bad_rows.Goals as goal
 
 plain : (s : goal.Start) → LegalFrame s.args.f
@@ -49,10 +52,10 @@ module _ (k : goal.After-sub_of-sub) where
       no15 start.args.f.depth r ≡ no15 start.args.f.depth (part (sub_y_of start.args.f) (plane_height start.args.f) (plane_width start.args.f) start.args.edges.now start.args.s)
   by_part part r e = ap (no15 start.args.f.depth) (e ∙ ap3 (λ (sy h w : ℕ). part sy h w start.args.edges.now start.args.s) k.sub_of-sub.ensures k.extent-h.ensures k.extent-w.ensures)
 
-own_is : (c : goal.After-some_outside) → c.some_outside.result ≡ own c.before.before.before.before.before
+own_is : (c : lts.After-some_outside tie.the-claims reads.Pre reads.Post) → c.some_outside.result ≡ own c.before.before.before.before.before
 own_is c = let s = c in c.some_outside.ensures ∙ ap (no15 s.args.f.depth) c.own_rows.ensures
 
-over_is : (c : goal.After-some_outside-2) → c.some_outside-2.result ≡ over c.before.before.before.before.before.before.before.before
+over_is : (c : lts.After-some_outside2 tie.the-claims reads.Pre reads.Post) → c.some_outside-2.result ≡ over c.before.before.before.before.before.before.before.before
 over_is c = c.some_outside-2.ensures ∙ by_part c.before.before.before.before.before planes.above _ c.above.ensures
 
 under_is : (c : goal.After-some_outside-3) → c.some_outside-3.result ≡ under c.before.before.before.before.before.before.before.before.before.before.before
