@@ -20,6 +20,8 @@ def main():
     todo = {}
     for path in sorted(glob.glob(f"crates/{crate}/proofs/**/Answers.antt", recursive=True)):
         function = os.path.relpath(os.path.dirname(path), f"crates/{crate}/proofs").replace("/", ".")
+        if f"Rattle-{crate}-proofs.{function}.Lts" not in data:
+            continue
         it = data[f"Rattle-{crate}-proofs.{function}.Lts"]
         text = open(path, encoding="utf-8").read()
         at = dict(zip((new for _, new in it["needs"]), (new for _, new in it["asked_at"])))

@@ -15,24 +15,17 @@ use Rattle.restoration.proofs.Answers.{passed, written_whole, written_changed, c
 use borrow.Author.Rules.{rules}
 use Rattle.restoration.proofs.restore_plane.Goals as goal
 
-module _ (c : goal.After-write_plane-arg-in-Done-1) where
-  zero : first (plane_tests c.args.f c.args.table.now c.args.deblocked.now c.args.cdef.now (length c.args.out.now) (length c.args.scratch.now)) ≡ 0
-  zero = sym c.plane_tests-t.ensures ∙ ap of_stored c.in-Done.is
-
-as_long : (w : goal.After-write_plane) → length w.write_plane.new.out ≡ length w.args.out.now
-as_long w = w.write_plane.auto.out
-
 area : (f : Frame) {table D C : List ℤ} {out scratch : ℕ} → PlanePassed f table D C out scratch → samples f ≤ 268435456
 area f p = mul-le-mul {n₁ = plane_height f} {m₁ = plane_width f} {n₂ = 16384} {m₂ = 16384} p.legal.rows_low p.legal.cols_low
 
 pub write_plane-requires : goal.write_plane-requires
-write_plane-requires c = zero c
+write_plane-requires c = sym c.plane_tests-t.ensures ∙ ap of_stored c.in-Done.is
 
 pub count_changed-changed-requires : goal.count_changed-changed-requires
-count_changed-changed-requires c = let w = c.before.before in let s = w.before in let p = passed _ _ _ _ _ _ (zero w.before) in record { out_len = (as_long w ∙ p.long_out ∙ sym p.long_c, omega (arith, p.long_c, area s.args.f p)); whole = (written_whole s.args.f s.args.table.now s.args.deblocked.now s.args.cdef.now _ w.write_plane.ensures (as_long w ∙ p.long_out), cdef_whole _ _ _ _ _ _ (zero w.before)) }
+count_changed-changed-requires c = let z = sym c.plane_tests-t.ensures ∙ ap of_stored c.in-Done.is in let p = passed _ _ _ _ _ _ z in let long = c.write_plane.auto.out in record { out_len = (long ∙ p.long_out ∙ sym p.long_c, omega (arith, p.long_c, area c.args.f p)); whole = (written_whole c.args.f c.args.table.now c.args.deblocked.now c.args.cdef.now _ c.write_plane.ensures (long ∙ p.long_out), cdef_whole _ _ _ _ _ _ z) }
 
 pub returns-in-Refused : goal.returns-in-Refused
-returns-in-Refused c = let s = c in let e = sym (ap of_stored c.in-Refused.is) ∙ c.plane_tests-t.ensures in let no = refused c.in-Refused.why _ e in record { result_value = answer_refused s.args.f s.args.table.now s.args.deblocked.now s.args.cdef.now s.args.out.now (length s.args.scratch.now) _ e (λ z. no (sym e ∙ z)); out_after = out_refused s.args.f s.args.table.now s.args.deblocked.now s.args.cdef.now s.args.out.now (length s.args.scratch.now) no; scratch_unchanged = λ _. refl }
+returns-in-Refused c = let e = sym (ap of_stored c.in-Refused.is) ∙ c.plane_tests-t.ensures in let no = refused c.in-Refused.why _ e in record { result_value = answer_refused c.args.f c.args.table.now c.args.deblocked.now c.args.cdef.now c.args.out.now (length c.args.scratch.now) _ e (λ z. no (sym e ∙ z)); out_after = out_refused c.args.f c.args.table.now c.args.deblocked.now c.args.cdef.now c.args.out.now (length c.args.scratch.now) no; scratch_unchanged = λ _. refl }
 
 pub returns-in-Done : goal.returns-in-Done
-returns-in-Done c = let w = c in let s = w.before.before.before.before in let z = zero w.before.before.before.before in let p = passed _ _ _ _ _ _ z in record { result_value = answer_done s.args.f s.args.table.now s.args.deblocked.now s.args.cdef.now s.args.out.now (length s.args.scratch.now) z _ (c.count_changed-changed.ensures ∙ written_changed s.args.f s.args.table.now s.args.deblocked.now s.args.cdef.now _ w.write_plane.ensures _ p.long_c); out_after = w.write_plane.ensures ∙ out_done s.args.f s.args.table.now s.args.deblocked.now s.args.cdef.now s.args.out.now (length s.args.scratch.now) z; scratch_unchanged = λ no. absurd (no z) }
+returns-in-Done c = let z = sym c.plane_tests-t.ensures ∙ ap of_stored c.in-Done.is in let p = passed _ _ _ _ _ _ z in record { result_value = answer_done c.args.f c.args.table.now c.args.deblocked.now c.args.cdef.now c.args.out.now (length c.args.scratch.now) z _ (c.count_changed-changed.ensures ∙ written_changed c.args.f c.args.table.now c.args.deblocked.now c.args.cdef.now _ c.write_plane.ensures _ p.long_c); out_after = c.write_plane.ensures ∙ out_done c.args.f c.args.table.now c.args.deblocked.now c.args.cdef.now c.args.out.now (length c.args.scratch.now) z; scratch_unchanged = λ no. absurd (no z) }

@@ -1,4 +1,7 @@
 -- Stripe after stripe: those so far hold the restored samples, and one more makes it one more.
+use mathlib.Core.List.{List}
+use lib.IntN.{ℤ}
+use Rattle.standard.specs.declared.Frame.{Frame}
 use Prim.Native.Nat.{ℕ, ◌*◌, ◌-◌, ◌≤◌, ◌<◌}
 use mathlib.Core.Path.{◌≡◌, refl, sym, ◌∙◌, ap, subst}
 use native.Mathlib.Omega.{arith}
@@ -20,27 +23,12 @@ use Rattle.restoration.proofs.Whole.{stripe_asked, stripe_added, whole_painted, 
 use borrow.Author.Rules.{rules}
 use Rattle.restoration.proofs.planes.restore_stripes.Goals as goal
 
--- what the callees answered
-module _ (t : goal.After-table) where
-  deep : t.depth_of-d.result ≡ depth_of t.args.f.depth
-  deep = t.depth_of-d.ensures
+-- what the callees answered: the count of stripes, which is small
+many : (f : Frame) {n y h : ℕ} → n ≡ defined.stripes y h → y ≡ sub_y_of f → h ≡ plane_height f → n ≡ defined.stripes (sub_y_of f) (plane_height f)
+many f p q r = p ∙ ap2 defined.stripes q r
 
-  own : t.sub_of-own.result ≡ sub_y_of t.args.f
-  own = t.sub_of-own.ensures
-
-  many : t.stripes-n.result ≡ defined.stripes (sub_y_of t.args.f) (plane_height t.args.f)
-  many = t.stripes-n.ensures ∙ ap2 defined.stripes own t.extent.ensures
-
-  few : defined.stripes (sub_y_of t.args.f) (plane_height t.args.f) ≤ 2049
-  few = stripes_small (sub_y_of t.args.f) (plane_height t.args.f) t.requires.asked.0.legal.own_y (omega (arith, t.requires.asked.0.legal.rows_low))
-
--- one turn: its stripe is one of the plane's, and the source is the definition's
-module _ (w : goal.After-whole_source-r) where
-  turn : w.loop-at.at < defined.stripes (sub_y_of w.args.f) (plane_height w.args.f)
-  turn = omega (arith, many w.before.before.before, w.loop-at-test.true)
-
-  source : w.whole_source-r.result ≡ whole_source (sub_y_of w.args.f) w.loop-at.at
-  source = w.whole_source-r.ensures ∙ ap (λ (o : ℕ). whole_source o w.loop-at.at) (own w.before.before.before)
+few : (f : Frame) {table : List ℤ} {scratch : ℕ} → Asked f table scratch → defined.stripes (sub_y_of f) (plane_height f) ≤ 2049
+few f p = stripes_small (sub_y_of f) (plane_height f) p.legal.own_y (omega (arith, p.legal.rows_low))
 
 pub extent-requires : goal.extent-requires
 extent-requires c = let l = c.requires.asked.0.legal in (l.sub_y, l.high)
@@ -52,23 +40,23 @@ pub loop-at-init : goal.loop-at-init
 loop-at-init c = (omega arith, refl, none_painted _ _ _ _ _ _ _)
 
 pub whole_source-r-requires : goal.whole_source-r-requires
-whole_source-r-requires c = let t = c.before.before in (omega (arith, own t, t.requires.asked.0.legal.own_y), omega (arith, many t, few t, c.loop-at-test.true))
+whole_source-r-requires c = (omega (arith, c.sub_of-own.ensures, c.requires.asked.0.legal.own_y), omega (arith, many c.args.f c.stripes-n.ensures c.sub_of-own.ensures c.extent.ensures, few c.args.f c.requires.asked.0, c.loop-at-test.true))
 
 pub restore_rectangles-requires : goal.restore_rectangles-requires
-restore_rectangles-requires c = let w = c.before.before.before in let i = w in let t = i.before.before.before in let s = t in let p = s.requires in let v = i.loop-at.invariant in
-    let b = stripe_asked p.asked.0 s.args.deblocked.now s.args.cdef.now i.loop-at.at (turn w) _ (source w) _ (deep t) p.asked.2 p.asked.3 p.samples.0 p.samples.1 in record { asked = (subst (Asked s.args.f s.args.table.now) (sym v.1) p.asked.0, turn w, omega (arith, p.asked.1, v.2.long)); stripe = (b.0, a2_table _ t.table.ensures); fetchable = b.1 }
+restore_rectangles-requires c = let p = c.requires in let v = c.loop-at.invariant in let n = many c.args.f c.stripes-n.ensures c.sub_of-own.ensures c.extent.ensures in let turn : c.loop-at.at < defined.stripes (sub_y_of c.args.f) (plane_height c.args.f) = omega (arith, n, c.loop-at-test.true) in
+    let b = stripe_asked p.asked.0 c.args.deblocked.now c.args.cdef.now c.loop-at.at turn _ (c.whole_source-r.ensures ∙ ap (λ (o : ℕ). whole_source o c.loop-at.at) c.sub_of-own.ensures) _ c.depth_of-d.ensures p.asked.2 p.asked.3 p.samples.0 p.samples.1 in record { asked = (subst (Asked c.args.f c.args.table.now) (sym v.1) p.asked.0, turn, omega (arith, p.asked.1, v.2.long)); stripe = (b.0, a2_table _ c.table.ensures); fetchable = b.1 }
 
 pub overflow_add-at : goal.overflow_add-at
-overflow_add-at c = let t = c.before.before.before.before.before.before.before.before.before in omega (arith, many t, few t, c.loop-at-test.true)
+overflow_add-at c = omega (arith, many c.args.f c.stripes-n.ensures c.sub_of-own.ensures c.extent.ensures, few c.args.f c.requires.asked.0, c.loop-at-test.true)
 
 pub loop-at-smaller : goal.loop-at-smaller
 loop-at-smaller c = omega (arith, c.loop-at-test.true)
 
 pub loop-at-preserved : goal.loop-at-preserved
-loop-at-preserved c = let w = c.before.before.before.before.before.before in let i = w in let t = i.before.before.before in let s = t in let p = s.requires in let v = i.loop-at.invariant in (
-  omega (arith, w.loop-at-test.true),
+loop-at-preserved c = let p = c.requires in let v = c.loop-at.invariant in let n = many c.args.f c.stripes-n.ensures c.sub_of-own.ensures c.extent.ensures in let turn : c.loop-at.at < defined.stripes (sub_y_of c.args.f) (plane_height c.args.f) = omega (arith, n, c.loop-at-test.true) in (
+  omega (arith, c.loop-at-test.true),
   c.restore_rectangles.auto.s ∙ v.1,
-  stripe_added p.asked.0 s.args.deblocked.now s.args.cdef.now i.loop-at.at (turn w) _ (source w) _ (deep t) s.args.out.now i.loop-at.out _ v.2 c.restore_rectangles.ensures,
+  stripe_added p.asked.0 c.args.deblocked.now c.args.cdef.now c.loop-at.at turn _ (c.whole_source-r.ensures ∙ ap (λ (o : ℕ). whole_source o c.loop-at.at) c.sub_of-own.ensures) _ c.depth_of-d.ensures c.args.out.now c.loop-at.out _ v.2 c.restore_rectangles.ensures,
 
 )
 
@@ -79,4 +67,4 @@ pub shape_of-s : goal.shape_of-s
 shape_of-s c = c.loop-at.invariant.1
 
 pub returns : goal.returns
-returns c = let i = c in let t = i.before.before in let s = t in whole_painted s.requires.asked.0 _ _ _ _ _ (omega (arith, many t, i.loop-at.invariant.0, c.loop-at-test.false)) s.requires.asked.1 i.loop-at.invariant.2
+returns c = whole_painted c.requires.asked.0 _ _ _ _ _ (omega (arith, many c.args.f c.stripes-n.ensures c.sub_of-own.ensures c.extent.ensures, c.loop-at.invariant.0, c.loop-at-test.false)) c.requires.asked.1 c.loop-at.invariant.2

@@ -47,11 +47,11 @@ pub loop-k-init : goal.loop-k-init
 loop-k-init c = (omega arith, omega arith, refl, painted_none _ _ _ _ _ _ _)
 
 pub restore_unit-requires : goal.restore_unit-requires
-restore_unit-requires c = let i = c in let u = i.before.before.before.before in let s = st u in let p = s.requires.asked in let v = i.loop-k.invariant in let t = c.loop-k-test in (
-  (subst (Asked s.args.f s.args.table.now) (sym v.2) p.0, below_all s.args.f s.args.at (cols u) i.loop-k.k (ec u) p.1 (omega arith), omega (arith, p.2, v.3.long)),
-  ((subst (λ (n : ℕ). Stripe s.args.f n s.args.r) (sym (in_stripe s.args.f s.args.at (cols u) i.loop-k.k (ec u) v.0 (omega arith))) s.requires.stripe.0, s.requires.stripe.1), s.requires.fetchable),
-
-)
+restore_unit-requires c = let i = c in let u = i.before.before.before.before in let s = st u in let p = s.requires.asked in let v = i.loop-k.invariant in let t = c.loop-k-test in record {
+  asked = (subst (Asked s.args.f s.args.table.now) (sym v.2) p.0, below_all s.args.f s.args.at (cols u) i.loop-k.k (ec u) p.1 (omega arith), omega (arith, p.2, v.3.long));
+  stripe = (subst (λ (n : ℕ). Stripe s.args.f n s.args.r) (sym (in_stripe s.args.f s.args.at (cols u) i.loop-k.k (ec u) v.0 (omega arith))) s.requires.stripe.0, s.requires.stripe.1);
+  fetchable = s.requires.fetchable;
+}
 
 pub overflow_add-k : goal.overflow_add-k
 overflow_add-k c = omega (arith, ends c.before.before.before.before.before.before.before)

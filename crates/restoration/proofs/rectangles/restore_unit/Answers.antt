@@ -99,3 +99,6 @@ restore_rect-requires c = let u = c.before.before in let m = u.before in let s =
 pub returns : goal.returns
 returns c = let u = c.before.before.before.before.before in let m = u.before in let s = st m in
     c.restore_rect.ensures ∙ unit_painted s.requires.asked.0 s.args.k s.requires.asked.1 _ _ _ _ (ew m) (eh m) (eg m) (ec m) s.args.d _ s.args.inside.now s.args.beside.now s.args.r s.args.out.now (kind_is u)
+
+pub overflow_cast-w : goal.overflow_cast-w
+overflow_cast-w c = search rules
