@@ -21,19 +21,19 @@ module _ (k : goal.In-Done) where
   found : Found read.args.bytes.now k.in-Done.s
   found = found_in _ _ (sym (ap of_job_read k.in-Done.is) ∙ read.read_job-t.ensures.result_value)
 
-  units_long : length read.read_job-t.last.1.0 ≡ 20
+  units_long : length read.read_job-t.new.units ≡ 20
   units_long = opened_long _ _ _ _ read.read_job-t.ensures.units_after (omega (arith, found.few_units, units_count _ _ found))
 
-  deblocked_long : length read.read_job-t.last.1.1.0 ≡ 1024
+  deblocked_long : length read.read_job-t.new.deblocked ≡ 1024
   deblocked_long = opened_long _ _ _ _ read.read_job-t.ensures.deblocked_after (omega (arith, found.few_deblocked, deblocked_count _ _ found))
 
-  cdef_long : length read.read_job-t.last.1.1.1.0 ≡ 1024
+  cdef_long : length read.read_job-t.new.cdef.0 ≡ 1024
   cdef_long = opened_long _ _ _ _ read.read_job-t.ensures.cdef_after (omega (arith, found.few_cdef, cdef_count _ _ found))
 
   abbrev sections : Sections
   sections = k.in-Done.s
 
-  same_job : job_with sections.frame (take (sections.units - 0) read.read_job-t.last.1.0) (take (sections.deblocked - 0) read.read_job-t.last.1.1.0) (take (sections.cdef - 0) read.read_job-t.last.1.1.1.0) ≡ job_of read.args.bytes.now
+  same_job : job_with sections.frame (take (sections.units - 0) read.read_job-t.new.units) (take (sections.deblocked - 0) read.read_job-t.new.deblocked) (take (sections.cdef - 0) read.read_job-t.new.cdef.0) ≡ job_of read.args.bytes.now
   same_job = job_lent _ _ found _ _ _ _ _ _ read.read_job-t.ensures.units_after read.read_job-t.ensures.deblocked_after read.read_job-t.ensures.cdef_after
 
 pub read_job-t-requires : goal.read_job-t-requires

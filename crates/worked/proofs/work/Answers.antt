@@ -17,7 +17,7 @@ module _ (w : goal.After-restore_plane-t) where
   abbrev job : Job
   job = job_with w.args.f w.args.units.now w.args.deblocked.now w.args.cdef.now
 
-  rows : w.restore_plane-t.last.1.1.1.1.0 ≡ work_rows job w.args.out.now
+  rows : w.restore_plane-t.new.out ≡ work_rows job w.args.out.now
   rows = same_rows w.args.f w.args.units.now w.args.deblocked.now w.args.cdef.now w.args.out.now _ 6912 w.requires.1 refl w.restore_plane-t.ensures.out_after
 
 -- the whole-plane call is done
@@ -34,7 +34,7 @@ module _ (k : goal.In-Done) where
   long : length call.args.cdef.now ≡ samples call.args.f
   long = (passed (job call) call.requires.0 zero).long_c
 
-  out_long : length call.restore_plane-t.last.1.1.1.1.0 ≡ length call.args.cdef.now
+  out_long : length call.restore_plane-t.new.out ≡ length call.args.cdef.now
   out_long = call.restore_plane-t.kept.1.1.1.1.0 ∙ call.requires.1
 
 pub restore_plane-t-requires : goal.restore_plane-t-requires
@@ -45,7 +45,7 @@ by_stripes-requires c = let k = c.before.before in ((start (call k)).pre.0, zero
 
 pub compared-requires : goal.compared-requires
 compared-requires c = let k = c.before.before.before.before in let b = c in let r = (start (call k)).pre.0 in
-    let same = b.by_stripes.auto.1.1.1.0 in
+    let same = b.by_stripes.auto.plane in
     ((passed (job (call k)) r (zero k)).legal, out_long k ∙ sym same, omega (arith, same, r.cdef), out_whole (job (call k)) r (zero k) _ _ (rows (call k)) (out_long k ∙ long k), plane_whole (job (call k)) r (zero k) _ b.by_stripes.ensures (same ∙ long k))
 
 pub returns-in-Refused : goal.returns-in-Refused
@@ -54,4 +54,4 @@ returns-in-Refused c = let w = c.before.before.before.before.before in let why =
     let q = sym (ap of_restored c.in-Refused.is) ∙ w.restore_plane-t.ensures.result_value in record { result_value = refused_answer (job w) _ (refusal_back why).1 (plane_refused _ _ _ _ _ _ _ q ∙ same_number _ _ _ _ _ 6912 w.requires.1 refl); out_after = rows w }
 
 pub returns-in-Done : goal.returns-in-Done
-returns-in-Done c = let k = c.before.before.before.before.before in let b = c in let r = (start (call k)).pre.0 in record { result_value = done_answer (job (call k)) r (zero k) _ _ _ _ _ c.compared.ensures (plane_done _ _ _ _ _ _ _ (answer k)).1 (rows (call k)) b.by_stripes.ensures (b.by_stripes.auto.1.1.1.0 ∙ long k); out_after = rows (call k) }
+returns-in-Done c = let k = c.before.before.before.before.before in let b = c in let r = (start (call k)).pre.0 in record { result_value = done_answer (job (call k)) r (zero k) _ _ _ _ _ c.compared.ensures (plane_done _ _ _ _ _ _ _ (answer k)).1 (rows (call k)) b.by_stripes.ensures (b.by_stripes.auto.plane ∙ long k); out_after = rows (call k) }

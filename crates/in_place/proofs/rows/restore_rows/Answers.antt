@@ -9,10 +9,13 @@ use Rattle.restoration.proofs.Whole.{a2_table}
 use Rattle.stripe_tests.proofs.Laws.{legal, rows_of}
 use Rattle.in_place.proofs.Stripe.{asked, stripe_asked, stripe_written}
 use borrow.Author.Rules.{rules}
+use Rattle.in_place.proofs.rows.restore_rows.Lts as lts
+use Rattle.in_place.proofs.rows.restore_rows.Reads as reads
+use Rattle.in_place.proofs.rows.restore_rows.Tie as tie
 use Rattle.in_place.proofs.rows.restore_rows.Goals as goal
 
 -- what the callees answered
-module _ (t : goal.After-table) where
+module _ (t : lts.After-table tie.the-claims reads.Pre reads.Post tie.handed_clauses) where
   deep : t.depth_of-d.result ≡ depth_of t.args.f.depth
   deep = t.depth_of-d.ensures
 
