@@ -1,0 +1,14 @@
+-- Both numbers read as themselves, so the signed test is theirs.
+use native.Mathlib.Omega.{arith}
+use mir.Syntax.{w32}
+use mir.Facts.{to_z_pos}
+use Rattle.laws.specs.Integers.{lt_in, le_in}
+use Rattle.laws.specs.ReadBack.{lt_yes, lt_no}
+use borrow.Author.Rules.{rules}
+use Rattle.boxes.proofs.shares.excess.Goals as goal
+
+pub returns-then-p-q : goal.returns-then-p-q
+returns-then-p-q c = let h = lt_in (lt_yes (to_z_pos w32 c.requires.0) (to_z_pos w32 c.requires.1) c.if-p-q.true) in omega arith
+
+pub overflow_sub-result : goal.overflow_sub-result
+overflow_sub-result c = let h = le_in (lt_no (to_z_pos w32 c.requires.0) (to_z_pos w32 c.requires.1) c.if-p-q.false) in omega arith

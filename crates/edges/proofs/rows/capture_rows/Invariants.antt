@@ -1,0 +1,19 @@
+-- Row by row: the rows so far are the boundaries' rows; all of them are the captured slice.
+use Prim.Native.Nat.{ℕ, ◌+◌, ◌*◌, ◌-◌, ◌/◌, ◌%◌, ◌≤◌}
+use mathlib.Core.Path.{◌≡◌, ◌∙◌, ap}
+use native.Mathlib.Omega.{arith}
+use lib.ListN.{length, get_or}
+use lib.IntN.{pos}
+use Rattle.laws.specs.Index.{row_le}
+use Rattle.laws.specs.Rows.{rows, rows_none, rows_more, rows_length}
+use Rattle.standard.specs.Stripes as defined
+use Rattle.standard.specs.Planes.{edge_row}
+use Rattle.frames.proofs.Legal.{halved}
+use Rattle.edges.proofs.Laws.{some_stripe, few_stripes, rows_room, edge_in, captured_is}
+use Rattle.edges.proofs.rows.capture_rows.Given as goal
+
+abbrev pub invariant-loop-k : goal.invariant-loop-k
+invariant-loop-k l = (l.k ≤ l.n) × (l.n ≡ 4 * (defined.stripes l.sub_y l.h - 1)) × (l.edges ≡ rows (λ k x. get_or l.deblocked (edge_row l.sub_y l.h (k / 4 + 1) (k % 4) * l.w + x) (pos 0)) 0 l.w l.w l.k l.initial.edges)
+
+abbrev pub decreases-loop-k : goal.decreases-loop-k
+decreases-loop-k l = l.n - l.k

@@ -1,0 +1,20 @@
+-- Row by row: the rows so far are the window's, and one more gathered row makes it one more.
+use Prim.Native.Nat.{ℕ, ◌+◌, ◌*◌, ◌-◌, ◌<◌, ◌≤◌}
+use mathlib.Core.Path.{◌≡◌, ◌∙◌, ap}
+use native.Mathlib.Omega.{arith}
+use lib.ListN.{length, get_or}
+use lib.IntN.{ℤ, pos}
+use mathlib.Core.List.{List}
+use Rattle.laws.specs.Congruence.{ap2}
+use Rattle.laws.specs.Index.{row_le}
+use Rattle.laws.specs.Rows.{rows, rows_none, rows_more, rows_length}
+use Rattle.standard.specs.Fetch as standard
+use Rattle.fetch.specs.Source.{source_row}
+use Rattle.fetch.proofs.Laws.{source_long}
+use Rattle.fetch.proofs.gather.Given as goal
+
+abbrev pub invariant-loop-k : goal.invariant-loop-k
+invariant-loop-k l = (l.k ≤ l.n) × (l.dst ≡ rows (λ k j. get_or (source_row l.inside l.beside l.w l.r (standard.l.neal.r l.h l.y0 k)) (standard.l.neal.r l.w l.x0 j) (pos 0)) 0 l.m l.m l.k l.initial.dst)
+
+abbrev pub decreases-loop-k : goal.decreases-loop-k
+decreases-loop-k l = l.n - l.k

@@ -1,0 +1,31 @@
+-- Three runs end to end are one run of the clamped row.
+use Prim.Native.Nat.{ℕ, ◌+◌, ◌-◌}
+use mathlib.Core.Path.{◌≡◌, refl, sym, ◌∙◌, ap}
+use native.Mathlib.Omega.{arith}
+use lib.ListN.{length, get_or}
+use lib.IntN.{ℤ, pos}
+use Rattle.laws.specs.Runs.{stamp, stamp_same, stamp_next}
+use Rattle.standard.specs.Fetch.{near}
+use borrow.Author.Rules.{rules}
+use Rattle.fetch.proofs.gather_row.Goals as goal
+
+-- the row's values, and the three runs that make them
+module _ (c : goal.After-dst-3-1) where
+  abbrev st : goal.Start
+  st = c.before.before.before.before.before.before.before.before.before.before
+
+  abbrev f : ℕ → ℤ
+  f k = get_or st.args.row.now (near (length st.args.row.now) st.args.x0 k) (pos 0)
+
+  same : (i j : ℕ) → i ≡ j → get_or st.args.row.now i (pos 0) ≡ get_or st.args.row.now j (pos 0)
+  same i j e = ap (λ (k : ℕ). get_or st.args.row.now k (pos 0)) e
+
+pub returns : goal.returns
+returns c = let p = c in
+    let r = p.split_row-t.ensures in
+    let t = p.split_row-t.result in
+    let s = (st c).args in
+    let e1 = c.repeat_run.ensures ∙ stamp_same _ (f c) s.to t.a _ (λ k h. same c _ _ (sym (r.left k h))) in
+    let e2 = stamp_next (f c) _ s.to t.a t.b (s.to + t.a) _ _ _ e1 c.copy_run.ensures refl (λ k h. same c (t.at + k) _ (sym (r.mid k h))) in
+    stamp_next (f c) _ s.to (t.a + t.b) (s.n - t.a - t.b) (s.to + t.a + t.b) _ _ _ e2 c.repeat_run-2.ensures (omega arith) (λ k h. same c _ _ (sym (r.right k h)))
+    ∙ ap (λ (k : ℕ). stamp (f c) s.to k s.dst.now) (omega (arith, r.fit))

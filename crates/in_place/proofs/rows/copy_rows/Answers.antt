@@ -1,0 +1,11 @@
+-- The rows that are lent out are the definition's, and the copy begins with them.
+use native.Mathlib.Omega.{arith}
+use Rattle.in_place.proofs.Answers.{copied, copy_fits}
+use borrow.Author.Rules.{rules}
+use Rattle.in_place.proofs.rows.copy_rows.Goals as goal
+
+pub copy_run-requires : goal.copy_run-requires
+copy_run-requires c = let s = c in let p = s.requires in (omega (arith, copy_fits p.0 s.args.s p.1 s.args.plane.now _ p.2 c.own_rows-rows.ensures _ p.3), omega arith)
+
+pub returns : goal.returns
+returns c = let k = c in let s = k in let p = s.requires in copied p.0 s.args.s p.1 s.args.plane.now _ p.2 k.own_rows-rows.ensures s.args.copy.now _ (copy_fits p.0 s.args.s p.1 s.args.plane.now _ p.2 k.own_rows-rows.ensures _ p.3) c.copy_run.ensures

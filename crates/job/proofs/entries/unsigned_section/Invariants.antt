@@ -1,0 +1,17 @@
+-- Entry by entry: the entries so far are stored.
+use Prim.Native.Nat.{ℕ, ◌+◌, ◌-◌, ◌≤◌}
+use mathlib.Core.Path.{◌≡◌, ◌∙◌, ap}
+use native.Mathlib.Omega.{arith}
+use lib.ListN.{length}
+use lib.IntN.{pos}
+use mir.Syntax.{w32}
+use mir.Facts.{to_z_pos}
+use Rattle.laws.specs.Runs.{stamp, stamp_none, stamp_more, stamp_length}
+use Rattle.standard.specs.Refusals.{wide}
+use Rattle.job.proofs.entries.unsigned_section.Given as goal
+
+abbrev pub invariant-loop-k : goal.invariant-loop-k
+invariant-loop-k l = (l.k ≤ l.n) × (l.room ≡ stamp (λ i. pos (wide l.bytes (l.at + i))) 0 l.k l.initial.room)
+
+abbrev pub decreases-loop-k : goal.decreases-loop-k
+decreases-loop-k l = l.n - l.k

@@ -1,0 +1,27 @@
+-- Stripe after stripe: those so far hold the restored samples, and one more makes it one more.
+use Prim.Native.Nat.{ℕ, ◌*◌, ◌-◌, ◌≤◌, ◌<◌}
+use mathlib.Core.Path.{◌≡◌, refl, sym, ◌∙◌, ap, subst}
+use native.Mathlib.Omega.{arith}
+use lib.IntN.{pos}
+use lib.ListN.{length}
+use Rattle.laws.specs.Congruence.{ap2}
+use Rattle.laws.specs.Cover.{Painted}
+use Rattle.standard.specs.Stripes as defined
+use Rattle.standard.specs.Depths.{depth_of}
+use Rattle.standard.specs.Refusals.{sub_y_of, plane_height, plane_width}
+use Rattle.standard.specs.Fetch.{restored_at}
+use Rattle.standard.specs.Planes.{grid}
+use Rattle.standard.specs.Calls.{shape_of}
+use Rattle.standard.proofs.Rectangles.{index_of}
+use Rattle.geometry.proofs.Laws.{stripes_small}
+use Rattle.fetch.specs.Source.{whole_source}
+use Rattle.restoration.specs.Asked.{Asked}
+use Rattle.restoration.proofs.Whole.{stripe_asked, stripe_added, whole_painted, a2_table, none_painted}
+use borrow.Author.Rules.{rules}
+use Rattle.restoration.proofs.planes.restore_stripes.Given as goal
+
+abbrev pub invariant-loop-at : goal.invariant-loop-at
+invariant-loop-at l = (l.at ≤ l.n) × (length l.s ≡ length l.initial.s) × Painted (index_of (sub_y_of l.f) l.f.ul.nit_l.size (plane_width l.f)) (plane_width l.f) (plane_height l.f) (λ y x. pos (restored_at (shape_of l.f l.table) (grid (plane_width l.f) l.deblocked) (grid (plane_width l.f) l.cdef) y x)) (pos 0) 0 (l.at * defined.ul.nitl.s (plane_width l.f) l.f.ul.nit_l.size) l.initial.out l.out
+
+abbrev pub decreases-loop-at : goal.decreases-loop-at
+decreases-loop-at l = l.n - l.at

@@ -1,0 +1,9 @@
+-- The range of the unpacked samples is the range of the bytes' samples.
+use mathlib.Core.Path.{refl}
+use native.Mathlib.Omega.{arith}
+use Rattle.sample.proofs.Numbers.{outside_is}
+use borrow.Author.Rules.{rules}
+use Rattle.sample.proofs.tests.outside.Goals as goal
+
+pub returns : goal.returns
+returns c = outside_is _ _ _ c.unpack.ensures (omega arith) _ _ refl c.first_outside.ensures

@@ -1,0 +1,16 @@
+-- The rows so far are those of i results; one more call makes one more row.
+use Prim.Native.Nat.{ℕ, ◌+◌, ◌-◌, ◌≤◌}
+use mathlib.Core.Path.{◌≡◌, refl, ◌∙◌, ap}
+use native.Mathlib.Omega.{arith}
+use lib.ListN.{length}
+use lib.IntN.{pos}
+use Rattle.laws.specs.Rows.{rows, rows_none, rows_more, rows_length}
+use Rattle.standard.specs.SelfGuided.{self_guided}
+use Rattle.selfguided.proofs.GuidedLaws.{window_at}
+use Rattle.selfguided.proofs.last.last.Given as goal
+
+abbrev pub invariant-loop-i : goal.invariant-loop-i
+invariant-loop-i l = (l.i ≤ l.h) × (l.out ≡ rows (λ i j. pos (self_guided l.m.del.ptl.h (l.odd + i) (l.weights) (window_at l.s (l.w) i j))) l.to l.stride l.w l.i l.initial.out)
+
+abbrev pub decreases-loop-i : goal.decreases-loop-i
+decreases-loop-i l = l.h - l.i

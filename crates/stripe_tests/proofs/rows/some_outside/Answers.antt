@@ -1,0 +1,11 @@
+-- The first sample out of range lies before the end exactly where there is one.
+use mathlib.Core.Path.{sym, ◌∙◌, ap}
+use Prim.Native.Nat.{ℕ}
+use lib.Dec.{ltb}
+use lib.ListN.{length}
+use Rattle.units.specs.First.{no15_first}
+use borrow.Author.Rules.{rules}
+use Rattle.stripe_tests.proofs.rows.some_outside.Goals as goal
+
+pub returns : goal.returns
+returns c = let a = c.args in ap (λ (k : ℕ). ltb k (length a.run.now)) c.first_outside.ensures ∙ sym (no15_first a.depth a.run.now)

@@ -1,0 +1,15 @@
+-- The rows so far are painted; one more row makes y + 1.
+use Prim.Native.Nat.{ℕ, ◌+◌, ◌*◌, ◌-◌, ◌≤◌}
+use mathlib.Core.Path.{◌≡◌, sym, ◌∙◌, ap, subst}
+use native.Mathlib.Omega.{arith}
+use lib.ListN.{length, get_or}
+use lib.IntN.{pos}
+use Rattle.laws.specs.Rows.{rows, rows_none, rows_more, rows_length}
+use Rattle.superres.specs.Scaled.{scaled, Fit}
+use Rattle.superres.proofs.block.block_rows.Given as goal
+
+abbrev pub invariant-loop-y : goal.invariant-loop-y
+invariant-loop-y l = (l.y ≤ l.p.l.rows) × (length l.r ≡ 1040) × (length l.line ≡ 1024) × (l.out ≡ rows (λ j x. scaled l.p.l.tol.p l.p.sl.tal.rl.t l.p.sl.tel.p l.p.lasl.t (λ c. get_or l.src ((0 + j) * l.p.cols + c) (pos 0)) (l.b.x0 + x)) (0 * l.p.widl.th + l.b.x0) l.p.widl.th l.b.n l.y l.initial.out)
+
+abbrev pub decreases-loop-y : goal.decreases-loop-y
+decreases-loop-y l = l.p.l.rows - l.y

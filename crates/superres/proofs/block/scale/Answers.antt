@@ -1,0 +1,8 @@
+-- The taps are laid once, then lent to every block.
+use native.Mathlib.Omega.{arith}
+use Rattle.superres.proofs.Rows.{laid}
+use borrow.Author.Rules.{rules}
+use Rattle.superres.proofs.block.scale.Goals as goal
+
+pub blocks-requires : goal.blocks-requires
+blocks-requires c = let s = c in record { laid = (laid _ _ (omega arith) c.lay.ensures, s.requires.out_len); fit = s.requires.fit }

@@ -1,0 +1,17 @@
+-- The run so far is the stamp of x samples.
+use Prim.Native.Nat.{ℕ, ◌-◌, ◌≤◌}
+use mathlib.Core.Path.{◌≡◌, refl, ◌∙◌, ap}
+use native.Mathlib.Omega.{arith}
+use lib.ListN.{length, get_or}
+use lib.IntN.{pos}
+use mir.Syntax.{w32}
+use Rattle.laws.specs.ReadBack.{returned, abs_at}
+use Rattle.laws.specs.Runs.{stamp, stamp_none, stamp_more, stamp_length}
+use Rattle.standard.specs.Arithmetic.{round2, clip_to}
+use Rattle.superres.proofs.row.settle.Given as goal
+
+abbrev pub invariant-loop-x : goal.invariant-loop-x
+invariant-loop-x l = (l.x ≤ l.n) × (l.out ≡ stamp (λ k. pos (clip_to l.top (round2 7 (get_or l.line k (pos 0))))) l.to l.x l.initial.out)
+
+abbrev pub decreases-loop-x : goal.decreases-loop-x
+decreases-loop-x l = l.n - l.x

@@ -1,0 +1,17 @@
+-- The area so far is the rectangle of i rows; one more call makes it i + 1.
+use Prim.Native.Nat.{ℕ, ◌+◌, ◌*◌, ◌-◌, ◌≤◌}
+use mathlib.Core.Path.{◌≡◌, refl, ◌∙◌, ap}
+use native.Mathlib.Omega.{arith}
+use native.Mathlib.Nat.{mul-le-mul_right}
+use lib.ListN.{length}
+use Rattle.laws.specs.Bounds.{samples_part}
+use Rattle.laws.specs.Index.{row_le}
+use Rattle.laws.specs.Rows.{rows, rows_none, rows_more, rows_length}
+use Rattle.wiener.specs.Passes.{across_at}
+use Rattle.wiener.proofs.window.across_window.Given as goal
+
+abbrev pub invariant-loop-i : goal.invariant-loop-i
+invariant-loop-i l = (l.i ≤ l.n) × (l.s ≡ rows (λ i x. across_at l.d l.t l.win (l.at + i * l.stride + x)) 0 l.w l.w l.i l.initial.s)
+
+abbrev pub decreases-loop-i : goal.decreases-loop-i
+decreases-loop-i l = l.n - l.i
