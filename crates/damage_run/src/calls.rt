@@ -8,22 +8,23 @@ use frames::number;
 use in_place::restore_stripe;
 use runs::copy_run;
 use standard::Stored;
+use std::io;
 
 // What call k is.
-fn say(k: usize) {
+fn say(rt: &impl Print, k: usize) -> io::Result<()> {
     match k {
-        0 => print(b"stripe 3                                    "),
-        1 => print(b"stripe 3 again                              "),
-        2 => print(b"stripe 5, of 0 to 4                         "),
-        3 => print(b"stripe 0                                    "),
-        4 => print(b"stripe 1, a mark is 2                       "),
-        5 => print(b"stripe 1, scratch one number short          "),
-        6 => print(b"stripe 4                                    "),
-        7 => print(b"stripe 1, edge rows of one boundary missing "),
-        8 => print(b"stripe 1, one unit missing                  "),
-        9 => print(b"stripe 1                                    "),
-        10 => print(b"stripe 2, depth 9                           "),
-        _ => print(b"stripe 2                                    "),
+        0 => print(rt, b"stripe 3                                    "),
+        1 => print(rt, b"stripe 3 again                              "),
+        2 => print(rt, b"stripe 5, of 0 to 4                         "),
+        3 => print(rt, b"stripe 0                                    "),
+        4 => print(rt, b"stripe 1, a mark is 2                       "),
+        5 => print(rt, b"stripe 1, scratch one number short          "),
+        6 => print(rt, b"stripe 4                                    "),
+        7 => print(rt, b"stripe 1, edge rows of one boundary missing "),
+        8 => print(rt, b"stripe 1, one unit missing                  "),
+        9 => print(rt, b"stripe 1                                    "),
+        10 => print(rt, b"stripe 2, depth 9                           "),
+        _ => print(rt, b"stripe 2                                    "),
     }
 }
 
@@ -106,6 +107,7 @@ fn call(
 
 // Call k and its line: what it is, its answer, and how many samples of the plane it changes.
 fn shown(
+    rt: &impl Print,
     k: usize,
     units: &[i32],
     edges: &[i32],
@@ -114,20 +116,21 @@ fn shown(
     marks: &mut [u8],
     scratch: &mut [i32],
     copy: &mut [i32],
-)
+) -> io::Result<()>
     requires in_bounds { (40 ≤ length units.now) × (192 ≤ length edges.now) × (8640 ≤ length scratch.old) }
     requires in_bounds_2 { (3168 ≤ length plane.old) × (3168 ≤ length before.old) }
 {
     copy_run(before, 0, plane, 0, 3168);
-    say(k);
+    say(rt, k)?;
     let answer = call(k, units, edges, plane, marks, scratch, copy);
-    column(answer as usize);
-    column(differing(plane, before, 0, 3168));
-    print(b"\n");
+    column(rt, answer as usize)?;
+    column(rt, differing(plane, before, 0, 3168))?;
+    print(rt, b"\n")
 }
 
 // The calls, in their order.
 pub fn run(
+    rt: &impl Print,
     units: &[i32],
     edges: &[i32],
     plane: &mut [i32],
@@ -135,13 +138,14 @@ pub fn run(
     marks: &mut [u8],
     scratch: &mut [i32],
     copy: &mut [i32],
-)
+) -> io::Result<()>
     requires in_bounds { (40 ≤ length units.now) × (192 ≤ length edges.now) × (8640 ≤ length scratch.old) }
     requires in_bounds_2 { (3168 ≤ length plane.old) × (3168 ≤ length before.old) }
 {
     let mut k = 0;
     while k < 12 {
-        shown(k, units, edges, plane, before, marks, scratch, copy);
+        shown(rt, k, units, edges, plane, before, marks, scratch, copy)?;
         k += 1;
     }
+    Ok(())
 }

@@ -1,21 +1,21 @@
 // What is printed: text, and numbers in columns.
-use libc::STDOUT_FILENO;
+use std::io;
 
-pub fn print(text: &[u8]) {
-    io::write_all(STDOUT_FILENO, text);
+pub fn print(rt: &impl Print, text: &[u8]) -> io::Result<()> {
+    rt.write_all(text)
 }
 
 // A number at the right of a column of 13.
-pub fn column(n: usize) {
-    print(b"         ");
+pub fn column(rt: &impl Print, n: usize) -> io::Result<()> {
+    print(rt, b"         ")?;
     if n < 1000 {
-        print(b" ");
+        print(rt, b" ")?;
     }
     if n < 100 {
-        print(b" ");
+        print(rt, b" ")?;
     }
     if n < 10 {
-        print(b" ");
+        print(rt, b" ")?;
     }
-    io::print_decimal(STDOUT_FILENO, n as u64);
+    print!(rt; "{n}")
 }

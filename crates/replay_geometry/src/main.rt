@@ -4,10 +4,12 @@
 mod entries; // entries.rt: the 16-bit entries of a record
 mod records; // records.rt: one record against the calls
 
-ghost use Rattle.std.specs.Prelude.{◌*◌, ◌≤◌, length};
+ghost use Rattle.std.specs.Prelude.{◌*◌, ◌≤◌, length, IfOk};
 
 use crate::records::{wrong_block, wrong_rectangle};
-use libc::STDOUT_FILENO;
+use input::read_full;
+use std::fs::File;
+use std::io;
 
 #[derive(Clone, Copy)]
 struct Tally {
@@ -38,65 +40,56 @@ fn wrong_blocks(s: &[u8], n: usize) -> usize
 }
 
 // The next records of rectangles, as many as an array holds.
-fn some_rectangles(fd: i32) -> Tally
-    ensures { (result.records ≤ 1365) × (result.wrong ≤ 1365) }
+fn some_rectangles(file: &mut File) -> io::Result<Tally>
+    ensures { IfOk result (λ t. (t.records ≤ 1365) × (t.wrong ≤ 1365)) }
 {
     let mut bytes = [0u8; 65520];
-    let n = io::read_full(fd, &mut bytes) / 48;
-    Tally {
+    let n = read_full(file, &mut bytes)? / 48;
+    Ok(Tally {
         records: n,
         wrong: wrong_rectangles(&bytes, n),
-    }
+    })
 }
 
-fn some_blocks(fd: i32) -> Tally {
+fn some_blocks(file: &mut File) -> io::Result<Tally> {
     let mut bytes = [0u8; 65512];
-    let n = io::read_full(fd, &mut bytes) / 38;
-    Tally {
+    let n = read_full(file, &mut bytes)? / 38;
+    Ok(Tally {
         records: n,
         wrong: wrong_blocks(&bytes, n),
-    }
+    })
 }
 
-fn print(what: &[u8], t: Tally) {
-    io::write_all(STDOUT_FILENO, what);
-    io::print_decimal(STDOUT_FILENO, t.records as u64);
-    io::write_all(STDOUT_FILENO, b" mismatches ");
-    io::print_decimal(STDOUT_FILENO, t.wrong as u64);
-    io::write_all(STDOUT_FILENO, b"\n");
+fn print(rt: &impl Print, what: &[u8], t: Tally) -> io::Result<()> {
+    rt.write_all(what)?;
+    rt.print(t.records)?;
+    rt.write_all(b" mismatches ")?;
+    rt.print(t.wrong)?;
+    rt.write_all(b"\n")
 }
 
 // Two arrays hold the file; the count that is printed tells that there is no more.
-fn rectangles() {
-    let fd = os::open_read(b"rectangles.rec");
-    if fd < 0 {
-        os::fail(b"rectangles.rec");
-        return;
-    }
-    let a = some_rectangles(fd);
-    let b = some_rectangles(fd);
-    libc::close(fd);
+fn rectangles(rt: &HostRuntime) -> io::Result<()> {
+    let mut file = File::open(rt, "rectangles.rec")?;
+    let a = some_rectangles(&mut file)?;
+    let b = some_rectangles(&mut file)?;
     print(
+        rt,
         b"rectangles ",
         Tally {
             records: a.records + b.records,
             wrong: a.wrong + b.wrong,
         },
-    );
+    )
 }
 
-fn blocks() {
-    let fd = os::open_read(b"blocks.rec");
-    if fd < 0 {
-        os::fail(b"blocks.rec");
-        return;
-    }
-    let t = some_blocks(fd);
-    libc::close(fd);
-    print(b"blocks ", t);
+fn blocks(rt: &HostRuntime) -> io::Result<()> {
+    let mut file = File::open(rt, "blocks.rec")?;
+    let t = some_blocks(&mut file)?;
+    print(rt, b"blocks ", t)
 }
 
-fn main() {
-    rectangles();
-    blocks();
+fn main(rt: HostRuntime) -> io::Result<()> {
+    rectangles(&rt)?;
+    blocks(&rt)
 }

@@ -3,11 +3,13 @@
 // count, and the samples by which the in-place run differs; entries are 16 bits, low byte first.
 #![tactic(auto)]
 
-ghost use Rattle.std.specs.Prelude.{◌+◌, ◌*◌, ◌≤◌, ◌<◌, length};
+ghost use Rattle.std.specs.Prelude.{◌+◌, ◌*◌, ◌≤◌, ◌<◌, length, IfOk};
 
+use input::read_full;
 use job::entries::entry;
-use libc::STDOUT_FILENO;
 use standard::{JobRan, Report};
+use std::fs::File;
+use std::io;
 use worked::refused::refused_number;
 use worked::run_job;
 
@@ -18,22 +20,22 @@ pub struct Tally {
 }
 
 // The next record's entries to the start of `bytes`; their number, or 0 where the file ends.
-fn next(fd: i32, bytes: &mut [u8]) -> usize
+fn next(file: &mut File, bytes: &mut [u8]) -> io::Result<usize>
     requires { 65536 ≤ length bytes.old }
-    ensures { 2 * result ≤ length bytes.new }
+    ensures { IfOk result (λ n. 2 * n ≤ length bytes.new) }
 {
     let mut head = [0u8; 2];
-    if io::read_full(fd, &mut head) != 2 {
-        return 0;
+    if read_full(file, &mut head)? != 2 {
+        return Ok(0);
     }
     let n = entry(&head, 0) as usize;
     if 32768 < n {
-        return 0;
+        return Ok(0);
     }
-    if io::read_full(fd, &mut bytes[0..2 * n]) != 2 * n {
-        return 0;
+    if read_full(file, &mut bytes[0..2 * n])? != 2 * n {
+        return Ok(0);
     }
-    n
+    Ok(n)
 }
 
 fn unequal(a: i32, b: i32) -> usize
@@ -144,40 +146,35 @@ fn wrong(bytes: &[u8], n: usize) -> u32
 }
 
 // At most 10,000,000 records.
-fn replay(fd: i32, bytes: &mut [u8]) -> Tally
+fn replay(file: &mut File, bytes: &mut [u8]) -> io::Result<Tally>
     requires { 65536 ≤ length bytes.old }
 {
     let mut records = 0;
     let mut mismatches = 0;
     while records < 10000000 {
-        let n = next(fd, bytes);
+        let n = next(file, bytes)?;
         if n == 0 {
-            return Tally {
+            return Ok(Tally {
                 records,
                 mismatches,
-            };
+            });
         }
         mismatches += wrong(bytes, n);
         records += 1;
     }
-    Tally {
+    Ok(Tally {
         records,
         mismatches,
-    }
+    })
 }
 
-fn main() {
-    let fd = os::open_read(b"jobs.rec");
-    if fd < 0 {
-        os::fail(b"jobs.rec");
-        return;
-    }
-    let mut bytes = io::large_buffer();
-    let t = replay(fd, &mut bytes);
-    libc::close(fd);
-    io::write_all(STDOUT_FILENO, b"jobs ");
-    io::print_decimal(STDOUT_FILENO, t.records as u64);
-    io::write_all(STDOUT_FILENO, b" mismatches ");
-    io::print_decimal(STDOUT_FILENO, t.mismatches as u64);
-    io::write_all(STDOUT_FILENO, b"\n");
+fn main(rt: HostRuntime) -> io::Result<()> {
+    let mut file = File::open(&rt, "jobs.rec")?;
+    let mut bytes = [0u8; 65536];
+    let t = replay(&mut file, &mut bytes)?;
+    rt.write_all(b"jobs ")?;
+    rt.print(t.records)?;
+    rt.write_all(b" mismatches ")?;
+    rt.print(t.mismatches)?;
+    rt.write_all(b"\n")
 }

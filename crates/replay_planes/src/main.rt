@@ -2,11 +2,13 @@
 // deblocked, the CDEF and the restored plane, each after its own count, and `changed`; entries are 16 bits, low byte first.
 #![tactic(auto)]
 
-ghost use Rattle.std.specs.Prelude.{◌+◌, ◌*◌, ◌≤◌, ◌<◌, length};
+ghost use Rattle.std.specs.Prelude.{◌+◌, ◌*◌, ◌≤◌, ◌<◌, length, IfOk};
 
-use libc::STDOUT_FILENO;
+use input::read_full;
 use restoration::restore_plane;
 use standard::{Frame, Restored};
+use std::fs::File;
+use std::io;
 
 #[derive(Clone, Copy)]
 pub struct Tally {
@@ -31,22 +33,22 @@ fn entry(s: &[u8], k: usize) -> u32
 }
 
 // The next record's entries to the start of `bytes`; their number, or 0 where the file ends.
-fn next(fd: i32, bytes: &mut [u8]) -> usize
+fn next(file: &mut File, bytes: &mut [u8]) -> io::Result<usize>
     requires { 65536 ≤ length bytes.old }
-    ensures { 2 * result ≤ length bytes.new }
+    ensures { IfOk result (λ n. 2 * n ≤ length bytes.new) }
 {
     let mut head = [0u8; 2];
-    if io::read_full(fd, &mut head) != 2 {
-        return 0;
+    if read_full(file, &mut head)? != 2 {
+        return Ok(0);
     }
     let n = entry(&head, 0) as usize;
     if 32768 < n {
-        return 0;
+        return Ok(0);
     }
-    if io::read_full(fd, &mut bytes[0..2 * n]) != 2 * n {
-        return 0;
+    if read_full(file, &mut bytes[0..2 * n])? != 2 * n {
+        return Ok(0);
     }
-    n
+    Ok(n)
 }
 
 fn frame_of(bytes: &[u8]) -> Frame
@@ -227,60 +229,55 @@ fn wrong(
 
 // At most 65535 records.
 fn replay(
-    fd: i32,
+    file: &mut File,
     bytes: &mut [u8],
     units: &mut [i32],
     deblocked: &mut [i32],
     cdef: &mut [i32],
     out: &mut [i32],
     scratch: &mut [i32],
-) -> Tally
+) -> io::Result<Tally>
     requires { (65536 ≤ length bytes.old) × (1024 ≤ length units.old) × (6208 ≤ length deblocked.old) × (6208 ≤ length cdef.old) × (6208 ≤ length out.old) }
 {
     let mut records = 0;
     let mut mismatches = 0;
     while records < 65535 {
-        let n = next(fd, bytes);
+        let n = next(file, bytes)?;
         if n == 0 {
-            return Tally {
+            return Ok(Tally {
                 records,
                 mismatches,
-            };
+            });
         }
         mismatches += wrong(bytes, n, units, deblocked, cdef, out, scratch);
         records += 1;
     }
-    Tally {
+    Ok(Tally {
         records,
         mismatches,
-    }
+    })
 }
 
-fn main() {
-    let fd = os::open_read(b"planes.rec");
-    if fd < 0 {
-        os::fail(b"planes.rec");
-        return;
-    }
-    let mut bytes = io::large_buffer();
+fn main(rt: HostRuntime) -> io::Result<()> {
+    let mut file = File::open(&rt, "planes.rec")?;
+    let mut bytes = [0u8; 65536];
     let mut units = [0i32; 1024];
     let mut deblocked = [0i32; 6208];
     let mut cdef = [0i32; 6208];
     let mut out = [0i32; 6208];
     let mut scratch = [0i32; 65536];
     let t = replay(
-        fd,
+        &mut file,
         &mut bytes,
         &mut units,
         &mut deblocked,
         &mut cdef,
         &mut out,
         &mut scratch,
-    );
-    libc::close(fd);
-    io::write_all(STDOUT_FILENO, b"planes ");
-    io::print_decimal(STDOUT_FILENO, t.records as u64);
-    io::write_all(STDOUT_FILENO, b" mismatches ");
-    io::print_decimal(STDOUT_FILENO, t.mismatches as u64);
-    io::write_all(STDOUT_FILENO, b"\n");
+    )?;
+    rt.write_all(b"planes ")?;
+    rt.print(t.records)?;
+    rt.write_all(b" mismatches ")?;
+    rt.print(t.mismatches)?;
+    rt.write_all(b"\n")
 }

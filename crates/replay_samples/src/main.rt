@@ -3,11 +3,13 @@
 
 mod entries; // entries.rt: the 16-bit entries of a record
 
-ghost use Rattle.std.specs.Prelude.{◌+◌, ◌*◌, ◌≤◌, length};
+ghost use Rattle.std.specs.Prelude.{◌+◌, ◌*◌, ◌≤◌, length, IfOk};
 
 use crate::entries::{entry, signed};
-use libc::STDOUT_FILENO;
+use input::read_full;
 use sample::restore_sample;
+use std::fs::File;
+use std::io;
 
 #[derive(Clone, Copy)]
 struct Tally {
@@ -55,59 +57,50 @@ fn wrong_samples(s: &[u8], n: usize) -> usize
 }
 
 // The next records, as many as an array holds.
-fn some_samples(fd: i32) -> Tally
-    ensures { (result.records ≤ 520) × (result.wrong ≤ 520) }
+fn some_samples(file: &mut File) -> io::Result<Tally>
+    ensures { IfOk result (λ t. (t.records ≤ 520) × (t.wrong ≤ 520)) }
 {
     let mut bytes = [0u8; 65520];
-    let n = io::read_full(fd, &mut bytes) / 126;
-    Tally {
+    let n = read_full(file, &mut bytes)? / 126;
+    Ok(Tally {
         records: n,
         wrong: wrong_samples(&bytes, n),
-    }
+    })
 }
 
 // Four arrays hold a file; the count that is printed tells that there is no more.
-fn all_samples(fd: i32) -> Tally {
-    let a = some_samples(fd);
-    let b = some_samples(fd);
-    let c = some_samples(fd);
-    let d = some_samples(fd);
-    libc::close(fd);
-    Tally {
+fn all_samples(mut file: File) -> io::Result<Tally> {
+    let a = some_samples(&mut file)?;
+    let b = some_samples(&mut file)?;
+    let c = some_samples(&mut file)?;
+    let d = some_samples(&mut file)?;
+    Ok(Tally {
         records: a.records + b.records + c.records + d.records,
         wrong: a.wrong + b.wrong + c.wrong + d.wrong,
-    }
+    })
 }
 
-fn print(t: Tally) {
-    io::print_decimal(STDOUT_FILENO, t.records as u64);
-    io::write_all(STDOUT_FILENO, b" mismatches ");
-    io::print_decimal(STDOUT_FILENO, t.wrong as u64);
-    io::write_all(STDOUT_FILENO, b"\n");
+fn print(rt: &impl Print, t: Tally) -> io::Result<()> {
+    rt.print(t.records)?;
+    rt.write_all(b" mismatches ")?;
+    rt.print(t.wrong)?;
+    rt.write_all(b"\n")
 }
 
-fn reference() {
-    let fd = os::open_read(b"samples.rec");
-    if fd < 0 {
-        os::fail(b"samples.rec");
-        return;
-    }
-    io::write_all(STDOUT_FILENO, b"samples ");
-    print(all_samples(fd));
+fn reference(rt: &HostRuntime) -> io::Result<()> {
+    let file = File::open(rt, "samples.rec")?;
+    rt.write_all(b"samples ")?;
+    print(rt, all_samples(file)?)
 }
 
-fn decoders() {
-    let fd = os::open_read(b"decoders.samples");
-    if fd < 0 {
-        os::fail(b"decoders.samples");
-        return;
-    }
-    io::write_all(STDOUT_FILENO, b"samples of decoders ");
-    print(all_samples(fd));
+fn decoders(rt: &HostRuntime) -> io::Result<()> {
+    let file = File::open(rt, "decoders.samples")?;
+    rt.write_all(b"samples of decoders ")?;
+    print(rt, all_samples(file)?)
 }
 
 // What the reference answered, and what real decoders' pictures hold.
-fn main() {
-    reference();
-    decoders();
+fn main(rt: HostRuntime) -> io::Result<()> {
+    reference(&rt)?;
+    decoders(&rt)
 }

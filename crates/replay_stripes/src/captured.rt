@@ -5,6 +5,8 @@ use crate::Tally;
 use crate::entries::{differing, entry, frame_of, load, next};
 use edges::capture_edges;
 use standard::Stored;
+use std::fs::File;
+use std::io;
 
 // -1 everywhere, so that a sample that is not written shows.
 fn clear(edges: &mut [i32], n: usize)
@@ -63,24 +65,29 @@ fn wrong(bytes: &[u8], n: usize, deblocked: &mut [i32], edges: &mut [i32]) -> u3
 }
 
 // At most 65535 records.
-pub fn replay(fd: i32, bytes: &mut [u8], deblocked: &mut [i32], edges: &mut [i32]) -> Tally
+pub fn replay(
+    file: &mut File,
+    bytes: &mut [u8],
+    deblocked: &mut [i32],
+    edges: &mut [i32],
+) -> io::Result<Tally>
     requires { (65536 ≤ length bytes.old) × (4096 ≤ length deblocked.old) × (1024 ≤ length edges.old) }
 {
     let mut records = 0;
     let mut mismatches = 0;
     while records < 65535 {
-        let n = next(fd, bytes);
+        let n = next(file, bytes)?;
         if n == 0 {
-            return Tally {
+            return Ok(Tally {
                 records,
                 mismatches,
-            };
+            });
         }
         mismatches += wrong(bytes, n, deblocked, edges);
         records += 1;
     }
-    Tally {
+    Ok(Tally {
         records,
         mismatches,
-    }
+    })
 }

@@ -1,7 +1,10 @@
 // A record's entries: 16 bits, low byte first, two's complement where a number may be negative.
-ghost use Rattle.std.specs.Prelude.{◌+◌, ◌*◌, ◌≤◌, ◌<◌, length};
+ghost use Rattle.std.specs.Prelude.{◌+◌, ◌*◌, ◌≤◌, ◌<◌, length, IfOk};
 
+use input::read_full;
 use standard::Frame;
+use std::fs::File;
+use std::io;
 
 fn wide(x: u8) -> u32
     ensures { result < 256 }
@@ -20,22 +23,22 @@ pub fn entry(s: &[u8], k: usize) -> u32
 }
 
 // The next record's entries to the start of `bytes`; their number, or 0 where the file ends.
-pub fn next(fd: i32, bytes: &mut [u8]) -> usize
+pub fn next(file: &mut File, bytes: &mut [u8]) -> io::Result<usize>
     requires { 65536 ≤ length bytes.old }
-    ensures { 2 * result ≤ length bytes.new }
+    ensures { IfOk result (λ n. 2 * n ≤ length bytes.new) }
 {
     let mut head = [0u8; 2];
-    if io::read_full(fd, &mut head) != 2 {
-        return 0;
+    if read_full(file, &mut head)? != 2 {
+        return Ok(0);
     }
     let n = entry(&head, 0) as usize;
     if 32768 < n {
-        return 0;
+        return Ok(0);
     }
-    if io::read_full(fd, &mut bytes[0..2 * n]) != 2 * n {
-        return 0;
+    if read_full(file, &mut bytes[0..2 * n])? != 2 * n {
+        return Ok(0);
     }
-    n
+    Ok(n)
 }
 
 pub fn frame_of(bytes: &[u8]) -> Frame

@@ -7,6 +7,8 @@ use crate::entries::{differing, entry, frame_of, load, next};
 use geometry::count;
 use in_place::restore_stripe;
 use standard::{Counted, Frame, Stored};
+use std::fs::File;
+use std::io;
 
 // The stripes of a plane. Their count does not depend on the unit size, which is anything with frame type 0.
 fn stripes_of(f: Frame) -> usize {
@@ -208,32 +210,32 @@ fn wrong(
 
 // At most 65535 records.
 pub fn replay(
-    fd: i32,
+    file: &mut File,
     bytes: &mut [u8],
     units: &mut [i32],
     edges: &mut [i32],
     plane: &mut [i32],
     scratch: &mut [i32],
     copy: &mut [i32],
-) -> Tally
+) -> io::Result<Tally>
     requires in_bounds { 65536 ≤ length bytes.old }
     requires in_bounds_2 { (256 ≤ length units.old) × (1024 ≤ length edges.old) × (6208 ≤ length plane.old) }
 {
     let mut records = 0;
     let mut mismatches = 0;
     while records < 65535 {
-        let n = next(fd, bytes);
+        let n = next(file, bytes)?;
         if n == 0 {
-            return Tally {
+            return Ok(Tally {
                 records,
                 mismatches,
-            };
+            });
         }
         mismatches += wrong(bytes, n, units, edges, plane, scratch, copy);
         records += 1;
     }
-    Tally {
+    Ok(Tally {
         records,
         mismatches,
-    }
+    })
 }

@@ -5,7 +5,8 @@ mod entries; // entries.rt: the 16-bit entries of a record
 mod captured; // captured.rt: edge rows against the capture
 mod in_order; // in_order.rt: stripes against the in-place call
 
-use libc::STDOUT_FILENO;
+use std::fs::File;
+use std::io;
 
 #[derive(Clone, Copy)]
 pub struct Tally {
@@ -13,54 +14,44 @@ pub struct Tally {
     pub mismatches: u32,
 }
 
-fn print(what: &[u8], t: Tally) {
-    io::write_all(STDOUT_FILENO, what);
-    io::print_decimal(STDOUT_FILENO, t.records as u64);
-    io::write_all(STDOUT_FILENO, b" mismatches ");
-    io::print_decimal(STDOUT_FILENO, t.mismatches as u64);
-    io::write_all(STDOUT_FILENO, b"\n");
+fn print(rt: &impl Print, what: &[u8], t: Tally) -> io::Result<()> {
+    rt.write_all(what)?;
+    rt.print(t.records)?;
+    rt.write_all(b" mismatches ")?;
+    rt.print(t.mismatches)?;
+    rt.write_all(b"\n")
 }
 
-fn edges() {
-    let fd = os::open_read(b"edges.rec");
-    if fd < 0 {
-        os::fail(b"edges.rec");
-        return;
-    }
-    let mut bytes = io::large_buffer();
+fn edges(rt: &HostRuntime) -> io::Result<()> {
+    let mut file = File::open(rt, "edges.rec")?;
+    let mut bytes = [0u8; 65536];
     let mut deblocked = [0i32; 4096];
     let mut edges = [0i32; 1024];
-    let t = captured::replay(fd, &mut bytes, &mut deblocked, &mut edges);
-    libc::close(fd);
-    print(b"edges ", t);
+    let t = captured::replay(&mut file, &mut bytes, &mut deblocked, &mut edges)?;
+    print(rt, b"edges ", t)
 }
 
-fn stripes() {
-    let fd = os::open_read(b"stripes.rec");
-    if fd < 0 {
-        os::fail(b"stripes.rec");
-        return;
-    }
-    let mut bytes = io::large_buffer();
+fn stripes(rt: &HostRuntime) -> io::Result<()> {
+    let mut file = File::open(rt, "stripes.rec")?;
+    let mut bytes = [0u8; 65536];
     let mut units = [0i32; 256];
     let mut edges = [0i32; 1024];
     let mut plane = [0i32; 6208];
     let mut scratch = [0i32; 65536];
     let mut copy = [0i32; 4096];
     let t = in_order::replay(
-        fd,
+        &mut file,
         &mut bytes,
         &mut units,
         &mut edges,
         &mut plane,
         &mut scratch,
         &mut copy,
-    );
-    libc::close(fd);
-    print(b"stripes ", t);
+    )?;
+    print(rt, b"stripes ", t)
 }
 
-fn main() {
-    edges();
-    stripes();
+fn main(rt: HostRuntime) -> io::Result<()> {
+    edges(&rt)?;
+    stripes(&rt)
 }

@@ -2,10 +2,12 @@
 // twelve frame numbers, the input and the output, each plane after its own count; entries are 16 bits, low byte first.
 #![tactic(auto)]
 
-ghost use Rattle.std.specs.Prelude.{◌+◌, ◌*◌, ◌≤◌, ◌<◌, length};
+ghost use Rattle.std.specs.Prelude.{◌+◌, ◌*◌, ◌≤◌, ◌<◌, length, IfOk};
 
-use libc::STDOUT_FILENO;
+use input::read_full;
 use standard::{Scaling, Stored};
+use std::fs::File;
+use std::io;
 use superres::upscale_plane;
 
 #[derive(Clone, Copy)]
@@ -31,22 +33,22 @@ fn entry(s: &[u8], k: usize) -> u32
 }
 
 // The next record's entries to the start of `bytes`; their number, or 0 where the file ends.
-fn next(fd: i32, bytes: &mut [u8]) -> usize
+fn next(file: &mut File, bytes: &mut [u8]) -> io::Result<usize>
     requires { 65536 ≤ length bytes.old }
-    ensures { 2 * result ≤ length bytes.new }
+    ensures { IfOk result (λ n. 2 * n ≤ length bytes.new) }
 {
     let mut head = [0u8; 2];
-    if io::read_full(fd, &mut head) != 2 {
-        return 0;
+    if read_full(file, &mut head)? != 2 {
+        return Ok(0);
     }
     let n = entry(&head, 0) as usize;
     if 32768 < n {
-        return 0;
+        return Ok(0);
     }
-    if io::read_full(fd, &mut bytes[0..2 * n]) != 2 * n {
-        return 0;
+    if read_full(file, &mut bytes[0..2 * n])? != 2 * n {
+        return Ok(0);
     }
-    n
+    Ok(n)
 }
 
 fn scaling_of(bytes: &[u8]) -> Scaling
@@ -171,42 +173,42 @@ fn wrong(bytes: &[u8], n: usize, input: &mut [i32], output: &mut [i32]) -> u32
 }
 
 // At most 65535 records.
-fn replay(fd: i32, bytes: &mut [u8], input: &mut [i32], output: &mut [i32]) -> Tally
+fn replay(
+    file: &mut File,
+    bytes: &mut [u8],
+    input: &mut [i32],
+    output: &mut [i32],
+) -> io::Result<Tally>
     requires { (65536 ≤ length bytes.old) × (16392 ≤ length input.old) × (8192 ≤ length output.old) }
 {
     let mut records = 0;
     let mut mismatches = 0;
     while records < 65535 {
-        let n = next(fd, bytes);
+        let n = next(file, bytes)?;
         if n == 0 {
-            return Tally {
+            return Ok(Tally {
                 records,
                 mismatches,
-            };
+            });
         }
         mismatches += wrong(bytes, n, input, output);
         records += 1;
     }
-    Tally {
+    Ok(Tally {
         records,
         mismatches,
-    }
+    })
 }
 
-fn main() {
-    let fd = os::open_read(b"upscale.rec");
-    if fd < 0 {
-        os::fail(b"upscale.rec");
-        return;
-    }
-    let mut bytes = io::large_buffer();
+fn main(rt: HostRuntime) -> io::Result<()> {
+    let mut file = File::open(&rt, "upscale.rec")?;
+    let mut bytes = [0u8; 65536];
     let mut input = [0i32; 16392];
     let mut output = [0i32; 8192];
-    let t = replay(fd, &mut bytes, &mut input, &mut output);
-    libc::close(fd);
-    io::write_all(STDOUT_FILENO, b"upscale ");
-    io::print_decimal(STDOUT_FILENO, t.records as u64);
-    io::write_all(STDOUT_FILENO, b" mismatches ");
-    io::print_decimal(STDOUT_FILENO, t.mismatches as u64);
-    io::write_all(STDOUT_FILENO, b"\n");
+    let t = replay(&mut file, &mut bytes, &mut input, &mut output)?;
+    rt.write_all(b"upscale ")?;
+    rt.print(t.records)?;
+    rt.write_all(b" mismatches ")?;
+    rt.print(t.mismatches)?;
+    rt.write_all(b"\n")
 }

@@ -5,86 +5,88 @@
 ghost use Rattle.std.specs.Prelude.{◌+◌, ◌*◌, ◌≤◌, pos, ◌≤ℤ◌, length};
 ghost use Rattle.counted.specs.Whole.{Whole};
 
-use libc::STDOUT_FILENO;
+use input::read_full;
 use standard::{JobRan, JobRefusal, Report};
+use std::io;
 use worked::refused::refused_number;
 use worked::run_job;
 
-fn print_number(n: u32) {
-    io::print_decimal(STDOUT_FILENO, n as u64);
+fn print_number(rt: &impl Print, n: u32) -> io::Result<()> {
+    print!(rt; "{n}")
 }
 
-fn print_sample(sample: i32)
+fn print_sample(rt: &impl Print, sample: i32) -> io::Result<()>
     requires { pos 0 ≤ℤ sample }
 {
-    io::print_decimal(STDOUT_FILENO, sample as u64);
+    rt.print(sample as u64)
 }
 
 // A space before each number but the first of a line.
-fn print_space(place: usize) {
+fn print_space(rt: &impl Print, place: usize) -> io::Result<()> {
     if place == 0 {
-        return;
+        return Ok(());
     }
-    io::write_all(STDOUT_FILENO, b" ");
+    print!(rt; " ")
 }
 
 // w samples from place `from` on, as one line.
-fn print_row(out: &[i32], from: usize, w: usize)
+fn print_row(rt: &impl Print, out: &[i32], from: usize, w: usize) -> io::Result<()>
     requires { (from + w ≤ length out.now) × Whole out.now }
 {
     let mut x = 0;
     while x < w {
-        print_space(x);
-        print_sample(out[from + x]);
+        print_space(rt, x)?;
+        print_sample(rt, out[from + x])?;
         x += 1;
     }
-    io::write_all(STDOUT_FILENO, b"\n");
+    print!(rt; "\n")
 }
 
-fn print_rows(out: &[i32], w: usize, h: usize)
+fn print_rows(rt: &impl Print, out: &[i32], w: usize, h: usize) -> io::Result<()>
     requires { (h * w ≤ length out.now) × (h ≤ 128) × (w ≤ 8) × Whole out.now }
 {
     let mut y = 0;
     while y < h {
-        print_row(out, y * w, w);
+        print_row(rt, out, y * w, w)?;
         y += 1;
     }
+    Ok(())
 }
 
-fn print_refused(why: JobRefusal) {
-    io::write_all(STDOUT_FILENO, b"refused ");
-    print_number(refused_number(why));
-    io::write_all(STDOUT_FILENO, b"\n");
+fn print_refused(rt: &impl Print, why: JobRefusal) -> io::Result<()> {
+    print!(rt; "refused ")?;
+    print_number(rt, refused_number(why))?;
+    print!(rt; "\n")
 }
 
-fn print_report(r: Report, out: &[i32])
+fn print_report(rt: &impl Print, r: Report, out: &[i32]) -> io::Result<()>
     requires { (r.height * r.width ≤ length out.now) × (r.height ≤ 128) × (r.width ≤ 8) × Whole out.now }
 {
-    io::write_all(STDOUT_FILENO, b"plane ");
-    print_number(r.plane);
-    io::write_all(STDOUT_FILENO, b" ");
-    print_number(r.width);
-    io::write_all(STDOUT_FILENO, b" ");
-    print_number(r.height);
-    io::write_all(STDOUT_FILENO, b" ");
-    print_number(r.stripes);
-    io::write_all(STDOUT_FILENO, b" ");
-    print_number(r.changed);
-    io::write_all(STDOUT_FILENO, b"\n");
-    print_rows(out, r.width as usize, r.height as usize);
-    io::write_all(STDOUT_FILENO, b"in place differs ");
-    print_number(r.differs);
-    io::write_all(STDOUT_FILENO, b"\n");
+    print!(rt; "plane ")?;
+    print_number(rt, r.plane)?;
+    print!(rt; " ")?;
+    print_number(rt, r.width)?;
+    print!(rt; " ")?;
+    print_number(rt, r.height)?;
+    print!(rt; " ")?;
+    print_number(rt, r.stripes)?;
+    print!(rt; " ")?;
+    print_number(rt, r.changed)?;
+    print!(rt; "\n")?;
+    print_rows(rt, out, r.width as usize, r.height as usize)?;
+    print!(rt; "in place differs ")?;
+    print_number(rt, r.differs)?;
+    print!(rt; "\n")
 }
 
 // One byte past the bound is asked for, so that a longer input is seen.
-fn main() {
+fn main(rt: HostRuntime) -> io::Result<()> {
     let mut bytes = [0u8; 4161];
     let mut out = [0i32; 1024];
-    let n = io::read_full(0, &mut bytes);
+    let n = read_full(&mut rt.reader(), &mut bytes)?;
     let r = run_job(&bytes[..n], &mut out);
     match r {
-        JobRan::Refused(why) => print_refused(why),
-        JobRan::Done(report) => print_report(report, &out),
+        JobRan::Refused(why) => print_refused(&rt, why),
+        JobRan::Done(report) => print_report(&rt, report, &out),
     }
 }
