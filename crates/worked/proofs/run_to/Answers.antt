@@ -14,49 +14,45 @@ use Rattle.worked.proofs.Laws.{opened_long, job_lent, units_count, deblocked_cou
 use borrow.Author.Rules.{rules}
 use Rattle.worked.proofs.run_to.Goals as goal
 
-module _ (k : goal.In-Done) where
-  abbrev read : goal.After-read_job-t
-  read = k.before.before.before
-
-  found : Found read.args.bytes.now k.in-Done.s
-  found = found_in _ _ (sym (ap of_job_read k.in-Done.is) ∙ read.read_job-t.ensures.result_value)
-
-  units_long : length read.read_job-t.new.units ≡ 20
-  units_long = opened_long _ _ _ _ read.read_job-t.ensures.units_after (omega (arith, found.few_units, units_count _ _ found))
-
-  deblocked_long : length read.read_job-t.new.deblocked ≡ 1024
-  deblocked_long = opened_long _ _ _ _ read.read_job-t.ensures.deblocked_after (omega (arith, found.few_deblocked, deblocked_count _ _ found))
-
-  cdef_long : length read.read_job-t.new.cdef.0 ≡ 1024
-  cdef_long = opened_long _ _ _ _ read.read_job-t.ensures.cdef_after (omega (arith, found.few_cdef, cdef_count _ _ found))
-
-  abbrev sections : Sections
-  sections = k.in-Done.s
-
-  same_job : job_with sections.frame (take (sections.units - 0) read.read_job-t.new.units) (take (sections.deblocked - 0) read.read_job-t.new.deblocked) (take (sections.cdef - 0) read.read_job-t.new.cdef.0) ≡ job_of read.args.bytes.now
-  same_job = job_lent _ _ found _ _ _ _ _ _ read.read_job-t.ensures.units_after read.read_job-t.ensures.deblocked_after read.read_job-t.ensures.cdef_after
-
-pub read_job-t-requires : goal.read_job-t-requires
-read_job-t-requires c = tt
-
 pub slice_bounds-work-end : goal.slice_bounds-work-end
-slice_bounds-work-end c = let k = c.before in omega (arith, (found k).few_units, units_long k)
+slice_bounds-work-end c =
+    let f = found_in _ _ (sym (ap of_job_read c.in-Done.is) ∙ c.read_job-t.ensures.result_value) in
+    let long : length c.read_job-t.new.units ≡ 20 = opened_long _ _ _ _ c.read_job-t.ensures.units_after (omega (arith, f.few_units, units_count _ _ f)) in
+    omega (arith, f.few_units, long)
 
 pub slice_bounds-work-end-in-Done : goal.slice_bounds-work-end-in-Done
-slice_bounds-work-end-in-Done c = let k = c.before.before in omega (arith, (found k).few_deblocked, deblocked_long k)
+slice_bounds-work-end-in-Done c =
+    let f = found_in _ _ (sym (ap of_job_read c.in-Done.is) ∙ c.read_job-t.ensures.result_value) in
+    let long : length c.read_job-t.new.deblocked ≡ 1024 = opened_long _ _ _ _ c.read_job-t.ensures.deblocked_after (omega (arith, f.few_deblocked, deblocked_count _ _ f)) in
+    omega (arith, f.few_deblocked, long)
 
 pub slice_bounds-cdef-end : goal.slice_bounds-cdef-end
-slice_bounds-cdef-end c = let k = c.before.before.before in omega (arith, (found k).few_cdef, cdef_long k)
+slice_bounds-cdef-end c =
+    let f = found_in _ _ (sym (ap of_job_read c.in-Done.is) ∙ c.read_job-t.ensures.result_value) in
+    let long : length c.read_job-t.new.cdef ≡ 1024 = opened_long _ _ _ _ c.read_job-t.ensures.cdef_after (omega (arith, f.few_cdef, cdef_count _ _ f)) in
+    omega (arith, f.few_cdef, long)
 
 pub slice_bounds-work-end-in-Done-2 : goal.slice_bounds-work-end-in-Done-2
-slice_bounds-work-end-in-Done-2 c = let k = c.before.before.before.before in omega (arith, (found k).few_cdef, k.requires)
+slice_bounds-work-end-in-Done-2 c =
+    let f = found_in _ _ (sym (ap of_job_read c.in-Done.is) ∙ c.read_job-t.ensures.result_value) in
+    omega (arith, f.few_cdef, c.requires)
 
 pub work-requires : goal.work-requires
-work-requires c = let k = c.before.before.before.before.before in let f = found k in
-    (bounds_lent _ _ f _ (same_job k), length-take-le ((sections k).cdef - 0) k.args.out.now (omega (arith, f.few_cdef, k.requires)) ∙ sym (length-take-le ((sections k).cdef - 0) (read k).read_job-t.new.cdef.0 (omega (arith, f.few_cdef, cdef_long k))))
+work-requires c =
+    let f = found_in _ _ (sym (ap of_job_read c.in-Done.is) ∙ c.read_job-t.ensures.result_value) in
+    let s = c.in-Done.s in
+    let r = c.read_job-t.new in
+    let long : length r.cdef ≡ 1024 = opened_long _ _ _ _ c.read_job-t.ensures.cdef_after (omega (arith, f.few_cdef, cdef_count _ _ f)) in
+    let same : job_with s.frame (take (s.units - 0) r.units) (take (s.deblocked - 0) r.deblocked) (take (s.cdef - 0) r.cdef) ≡ job_of c.args.bytes.now = job_lent _ _ f _ _ _ _ _ _ c.read_job-t.ensures.units_after c.read_job-t.ensures.deblocked_after c.read_job-t.ensures.cdef_after in
+    (bounds_lent _ _ f _ same, length-take-le (s.cdef - 0) c.args.out.now (omega (arith, f.few_cdef, c.requires)) ∙ sym (length-take-le (s.cdef - 0) r.cdef (omega (arith, f.few_cdef, long))))
 
 pub returns-in-Refused : goal.returns-in-Refused
 returns-in-Refused c = let q = sym (ap of_job_read c.in-Refused.is) ∙ c.read_job-t.ensures.result_value in let n = job_refused c.in-Refused.why in record { result_value = run_refused _ _ n q; out_after = rows_refused _ _ n q _ }
 
 pub returns-in-Done : goal.returns-in-Done
-returns-in-Done c = let k = c.before.before.before.before.before.before.before.before in let w = c in let f = found k in record { result_value = w.work.ensures.result_value ∙ run_same _ _ f.number (same_job k); out_after = rows_put _ f.number _ _ (cdef_count _ _ f) _ _ (same_job k) w.work.ensures.out_after }
+returns-in-Done c =
+    let f = found_in _ _ (sym (ap of_job_read c.in-Done.is) ∙ c.read_job-t.ensures.result_value) in
+    let s = c.in-Done.s in
+    let r = c.read_job-t.new in
+    let same : job_with s.frame (take (s.units - 0) r.units) (take (s.deblocked - 0) r.deblocked) (take (s.cdef - 0) r.cdef) ≡ job_of c.args.bytes.now = job_lent _ _ f _ _ _ _ _ _ c.read_job-t.ensures.units_after c.read_job-t.ensures.deblocked_after c.read_job-t.ensures.cdef_after in
+    record { result_value = c.work.ensures.result_value ∙ run_same _ _ f.number same; out_after = rows_put _ f.number _ _ (cdef_count _ _ f) _ _ same c.work.ensures.out_after }

@@ -2,6 +2,10 @@
 use mathlib.Core.Path.{◌≡◌, refl, ◌∙◌, sym, ap}
 use native.Mathlib.Omega.{arith}
 use lib.ListN.{length}
+use lib.IntN.{ℤ}
+use Prim.Native.Nat.{ℕ}
+use mathlib.Core.List.{List}
+use Rattle.standard.specs.declared.Frame.{Frame}
 use Rattle.standard.specs.Answers.{of_restored, job_refusal_number}
 use Rattle.standard.proofs.Answers.{refusal_back}
 use Rattle.standard.specs.Calls.{plane_answer}
@@ -13,45 +17,42 @@ use Rattle.worked.proofs.Laws.{plane_done, plane_refused, same_number, same_rows
 use borrow.Author.Rules.{rules}
 use Rattle.worked.proofs.work.Goals as goal
 
-module _ (w : goal.After-restore_plane-t) where
-  abbrev job : Job
-  job = job_with w.args.f w.args.units.now w.args.deblocked.now w.args.cdef.now
-
-  rows : w.restore_plane-t.new.out ≡ work_rows job w.args.out.now
-  rows = same_rows w.args.f w.args.units.now w.args.deblocked.now w.args.cdef.now w.args.out.now _ 6912 w.requires.1 refl w.restore_plane-t.ensures.out_after
-
--- the whole-plane call is done
-module _ (k : goal.In-Done) where
-  abbrev call : goal.After-restore_plane-t
-  call = k.before.before.before.before.before
-
-  answer : (0, k.in-Done.changed) ≡ plane_answer call.args.f call.args.units.now call.args.deblocked.now call.args.cdef.now (length call.args.out.now) 6912
-  answer = sym (ap of_restored k.in-Done.is) ∙ call.restore_plane-t.ensures.result_value
-
-  zero : first (job_tests (job call)) ≡ 0
-  zero = sym (same_number call.args.f call.args.units.now call.args.deblocked.now call.args.cdef.now _ 6912 call.requires.1 refl) ∙ (plane_done _ _ _ _ _ _ _ answer).0
-
-  long : length call.args.cdef.now ≡ samples call.args.f
-  long = (passed (job call) call.requires.0 zero).long_c
-
-  out_long : length call.restore_plane-t.new.out ≡ length call.args.cdef.now
-  out_long = call.restore_plane-t.kept.1.1.1.1.0 ∙ call.requires.1
-
-pub restore_plane-t-requires : goal.restore_plane-t-requires
-restore_plane-t-requires c = tt
+-- where the whole-plane call is done, no test holds
+none_holds : (f : Frame) (u d c o : List ℤ) {n : ℕ} → length o ≡ length c → (0, n) ≡ plane_answer f u d c (length o) 6912 → first (job_tests (job_with f u d c)) ≡ 0
+none_holds f u d c o l q = sym (same_number f u d c _ 6912 l refl) ∙ (plane_done _ _ _ _ _ _ _ q).0
 
 pub by_stripes-requires : goal.by_stripes-requires
-by_stripes-requires c = let k = c.before.before in ((start (call k)).pre.0, zero k)
+by_stripes-requires c = (c.requires.0, none_holds c.args.f c.args.units.now c.args.deblocked.now c.args.cdef.now c.args.out.now c.requires.1 (sym (ap of_restored c.in-Done.is) ∙ c.restore_plane-t.ensures.result_value))
 
 pub compared-requires : goal.compared-requires
-compared-requires c = let k = c.before.before.before.before in let b = c in let r = (start (call k)).pre.0 in
-    let same = b.by_stripes.auto.plane in
-    ((passed (job (call k)) r (zero k)).legal, out_long k ∙ sym same, omega (arith, same, r.cdef), out_whole (job (call k)) r (zero k) _ _ (rows (call k)) (out_long k ∙ long k), plane_whole (job (call k)) r (zero k) _ b.by_stripes.ensures (same ∙ long k))
+compared-requires c =
+    let r = c.requires.0 in
+    let job = job_with c.args.f c.args.units.now c.args.deblocked.now c.args.cdef.now in
+    let z : first (job_tests job) ≡ 0 = none_holds c.args.f c.args.units.now c.args.deblocked.now c.args.cdef.now c.args.out.now c.requires.1 (sym (ap of_restored c.in-Done.is) ∙ c.restore_plane-t.ensures.result_value) in
+    let same = c.by_stripes.auto.plane in
+    let long = (passed job r z).long_c in
+    let out_long = c.restore_plane-t.auto.out ∙ c.requires.1 in
+    let rows : c.restore_plane-t.new.out ≡ work_rows job c.args.out.now = same_rows c.args.f c.args.units.now c.args.deblocked.now c.args.cdef.now c.args.out.now _ 6912 c.requires.1 refl c.restore_plane-t.ensures.out_after in
+    ((passed job r z).legal, out_long ∙ sym same, omega (arith, same, r.cdef), out_whole job r z _ _ rows (out_long ∙ long), plane_whole job r z _ c.by_stripes.ensures (same ∙ long))
 
 pub returns-in-Refused : goal.returns-in-Refused
 unfolding job_refusal_number
-returns-in-Refused c = let w = c.before.before.before.before.before in let why = c.in-Refused.why in
-    let q = sym (ap of_restored c.in-Refused.is) ∙ w.restore_plane-t.ensures.result_value in record { result_value = refused_answer (job w) _ (refusal_back why).1 (plane_refused _ _ _ _ _ _ _ q ∙ same_number _ _ _ _ _ 6912 w.requires.1 refl); out_after = rows w }
+returns-in-Refused c =
+    let why = c.in-Refused.why in
+    let q = sym (ap of_restored c.in-Refused.is) ∙ c.restore_plane-t.ensures.result_value in
+    record {
+      result_value = refused_answer (job_with c.args.f c.args.units.now c.args.deblocked.now c.args.cdef.now) _ (refusal_back why).1 (plane_refused _ _ _ _ _ _ _ q ∙ same_number _ _ _ _ _ 6912 c.requires.1 refl);
+      out_after = same_rows c.args.f c.args.units.now c.args.deblocked.now c.args.cdef.now c.args.out.now _ 6912 c.requires.1 refl c.restore_plane-t.ensures.out_after;
+    }
 
 pub returns-in-Done : goal.returns-in-Done
-returns-in-Done c = let k = c.before.before.before.before.before in let b = c in let r = (start (call k)).pre.0 in record { result_value = done_answer (job (call k)) r (zero k) _ _ _ _ _ c.compared.ensures (plane_done _ _ _ _ _ _ _ (answer k)).1 (rows (call k)) b.by_stripes.ensures (b.by_stripes.auto.plane ∙ long k); out_after = rows (call k) }
+returns-in-Done c =
+    let r = c.requires.0 in
+    let job = job_with c.args.f c.args.units.now c.args.deblocked.now c.args.cdef.now in
+    let answer = sym (ap of_restored c.in-Done.is) ∙ c.restore_plane-t.ensures.result_value in
+    let z : first (job_tests job) ≡ 0 = none_holds c.args.f c.args.units.now c.args.deblocked.now c.args.cdef.now c.args.out.now c.requires.1 answer in
+    let rows : c.restore_plane-t.new.out ≡ work_rows job c.args.out.now = same_rows c.args.f c.args.units.now c.args.deblocked.now c.args.cdef.now c.args.out.now _ 6912 c.requires.1 refl c.restore_plane-t.ensures.out_after in
+    record {
+      result_value = done_answer job r z _ _ _ _ _ c.compared.ensures (plane_done _ _ _ _ _ _ _ answer).1 rows c.by_stripes.ensures (c.by_stripes.auto.plane ∙ (passed job r z).long_c);
+      out_after = rows;
+    }

@@ -6,4 +6,4 @@ use borrow.Author.Rules.{rules}
 use Rattle.host.proofs.stripe_calls.cironetop_restore_stripe.Goals as goal
 
 pub returns : goal.returns
-returns c = let e = c.restore_stripe.ensures in record { value = c.stored.ensures ∙ e.0.0; marks_after = ap2 lent e.0.1 e.0.2; scratch_unchanged = e.1 }
+returns c = let e = c.restore_stripe.ensures in record { value = c.stored.ensures ∙ e.promised.0; marks_after = ap2 lent e.promised.1 e.promised.2; scratch_unchanged = e.scratch_unchanged }

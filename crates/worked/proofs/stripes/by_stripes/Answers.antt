@@ -73,8 +73,8 @@ pub captured_run-requires : goal.captured_run-requires
 captured_run-requires c = let k = c.before.before.before.before.before in
     let e = 4 * wide k * (k.stripes-n.result - 1) - 0 in
     let l : e ≤ 64 = omega (arith, room k) in
-    let m : k.stripes.result - 0 ≤ 3 = omega (arith, few k) in
-    let same : e ≡ 4 * wide k * (k.stripes.result - 1) = omega arith in
+    let m : k.stripes-n.result - 0 ≤ 3 = omega (arith, few k) in
+    let same : e ≡ 4 * wide k * (k.stripes-n.result - 1) = omega arith in
     (capture_done (job (start k)) (start k).requires.0 (start k).requires.1 _ (length-take-le e _ l ∙ same ∙ exact k), omega (arith, length-take-le {A = ℕ} (k.stripes-n.result - 0) (0 ∷ 0 ∷ 0 ∷ []) m))
 
 pub returns : goal.returns

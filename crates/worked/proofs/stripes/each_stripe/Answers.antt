@@ -16,8 +16,8 @@ pub restore_stripe-requires : goal.restore_stripe-requires
 restore_stripe-requires c = tt
 
 pub loop-s-preserved : goal.loop-s-preserved
-loop-s-preserved c = let i = c.loop-s.invariant in let k = c.restore_stripe.auto.1.1.1.1 in
-    (omega arith, stripes_more _ _ _ _ _ _ _ _ _ _ _ c.restore_stripe.result i.1 i.2 i.3 c.restore_stripe.ensures.promised, k.1.1.0 ∙ i.2, k.1.1.1.0 ∙ i.3, k.0 ∙ i.4, k.1.0 ∙ i.5)
+loop-s-preserved c = let i = c.loop-s.invariant in let k = c.restore_stripe.auto in
+    (omega arith, stripes_more _ _ _ _ _ _ _ _ _ _ _ c.restore_stripe.result i.1 i.2 i.3 c.restore_stripe.ensures.promised, k.scratch ∙ i.2, k.copy ∙ i.3, k.plane ∙ i.4, k.marks ∙ i.5)
 
 pub shape_of-plane : goal.shape_of-plane
 shape_of-plane c = c.loop-s.invariant.4
