@@ -29,8 +29,8 @@ fn main() {
     }
 }
 
-/// The archive that `CIRONETOP_HOST` names, or else the one that `rt staticlib host` writes, or
-/// `tools/native` for aarch64.
+/// The archive that `CIRONETOP_HOST` names, or else the one that `tools/library` makes for the
+/// target.
 fn library() -> PathBuf {
     println!("cargo::rerun-if-env-changed=CIRONETOP_HOST");
     let manifest = PathBuf::from(env::var_os("CARGO_MANIFEST_DIR").expect("cargo sets it"));

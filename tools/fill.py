@@ -1,34 +1,29 @@
-"""Fill a scaffold that tools/scaffold wrote, from a script that imports this file and runs at the top of the repository:
+"""Fill the proof files that `rt check --start` wrote, from a script that imports this file and runs at the top of the repository:
 
-    fill('runs', 'copy_run', 'A header of one or two lines.', 'use ..', inv='(x ≤ n) × ..', measure='n - x',
-         answers={'loop-holds': '(omega arith, stamp-none _ _ _)'}, default='omega arith', unfolding={'returns': 'round2'})
+    fill('runs', 'copy_run', 'A header of one or two lines.', 'use ..', invariants={'loop-i': '(l.x ≤ l.n) × ..'}, measures={'loop-i': 'l.n - l.x'},
+         answers={'loop-i-init': '(omega arith, stamp_none _ _ _)'}, default='omega arith', unfolding={'returns': 'round2'})
 
-Every hole with no answer gets `default`. The scaffold is kept under target/scaffold, so that a run can be repeated.
+Every answer that is still a hole gets `default`. The files as they were begun are kept under target/scaffold, so that a run can be repeated.
 """
 import os
 import re
 
 
-def kept(crate, function):
-    path = f'crates/{crate}/proofs/{function}/Proof.antt'
-    copy = f'target/scaffold/{crate}.{function.replace("/", ".")}'
+def kept(crate, function, name):
+    path = f'crates/{crate}/proofs/{function}/{name}.antt'
+    copy = f'target/scaffold/{crate}.{function.replace("/", ".")}.{name}'
     os.makedirs('target/scaffold', exist_ok=True)
-    if not os.path.exists(copy):
-        with open(path) as source, open(copy, 'w') as target:
+    if not os.path.exists(copy) and os.path.exists(path):
+        with open(path, encoding='utf-8') as source, open(copy, 'w', encoding='utf-8') as target:
             target.write(source.read())
-    with open(copy) as file:
+    if not os.path.exists(copy):
+        return path, ''
+    with open(copy, encoding='utf-8') as file:
         return path, file.read()
 
 
-def fill(crate, function, header, uses='', inv=None, measure=None, answers=None, default=None, helpers='', unfolding=None):
-    path, text = kept(crate, function)
-    text = re.sub(r'(?m)^use \S+\.(Reads|Lts) as .*\n', '', text)
-    text = re.sub(r'(?m)^-- src/.*\n', '', text)
-    if inv:
-        text = re.sub(r'(?m)^(Inv-loop .* = )\?', lambda m: m.group(1) + inv, text)
-    if measure:
-        text = re.sub(r'(?m)^(μ-loop .* = )\?', lambda m: m.group(1) + measure, text)
-    left = dict(answers or {})
+def answered(text, left, default):
+    """The text with an answer in the place of each hole or proposal that `left` names, which it is then taken from, and the default elsewhere."""
 
     def answer(m):
         name, binder, old = m.groups()
@@ -36,14 +31,23 @@ def fill(crate, function, header, uses='', inv=None, measure=None, answers=None,
             return f'{name}{binder} = {left.pop(name)}'
         return f'{name}{binder} = {default}' if old == '?' and default else m.group(0)
 
-    text = re.sub(r'(?m)^(\S+)( c(?: κs)?) = (.*)$', answer, text)
-    for need, names in (unfolding or {}).items():
-        text = re.sub(r'(?m)^(%s : tie\.Need-.*)$' % re.escape(need), lambda m: f'{m.group(1)}\nunfolding {names}', text)
-    if left:
-        print('no such need:', function, sorted(left))
-    if helpers:
-        loop = re.search(r'(?m)^μ-loop .*\n\n', text)
-        place = loop.end() if loop else [m.end() for m in re.finditer(r'(?m)^use .*\n', text)][-1] + 1
-        text = text[:place] + helpers.strip() + '\n\n' + text[place:]
-    with open(path, 'w') as file:
-        file.write(header.strip() + '\n' + uses.strip() + '\n' + text)
+    return re.sub(r'(?m)^(\S+)((?: [\w₀-₉\'-]+)*) = (.*)$', answer, text)
+
+
+def fill(crate, function, header='', uses='', invariants=None, measures=None, answers=None, default=None, helpers='', unfolding=None):
+    loops = {f'invariant-{loop}': text for loop, text in (invariants or {}).items()}
+    loops.update((f'decreases-{loop}', text) for loop, text in (measures or {}).items())
+    for name, left, other in (('Invariants', loops, None), ('Answers', dict(answers or {}), default)):
+        path, text = kept(crate, function, name)
+        text = answered(re.sub(r'(?m)^-- src/.*\n', '', text), left, other)
+        if left:
+            print('no such goal:', function, sorted(left))
+        if name == 'Answers':
+            for goal, names in (unfolding or {}).items():
+                text = re.sub(r'(?m)^((?:abbrev )?pub %s : .*)$' % re.escape(goal), lambda m: f'{m.group(1)}\nunfolding {names}', text)
+            if helpers:
+                place = [m.end() for m in re.finditer(r'(?m)^use .*\n', text)][-1]
+                text = f'{text[:place]}\n{helpers.strip()}\n{text[place:]}'
+        if text:
+            with open(path, 'w', encoding='utf-8') as file:
+                file.write('\n'.join(part.strip() for part in (header, uses) if part.strip()) + '\n' + text)

@@ -1,7 +1,10 @@
 """What tools/mutate and tools/mutate_definitions share: the order in which mutants are tried, and the copy of the repository they are tried in."""
+import atexit
 import os
 import shutil
+import signal
 import subprocess
+import tempfile
 
 
 def rounds(rooms, chance):
@@ -17,9 +20,25 @@ def rounds(rooms, chance):
     return order
 
 
-def copied(folder):
-    """A fresh copy of the crates and of what is proved of them."""
-    shutil.rmtree(folder, ignore_errors=True)
-    os.makedirs(folder)
-    subprocess.run(['cp', '-a', 'crates', 'crates.txt', folder], check=True)
-    subprocess.run(['rsync', '-a', '--exclude', 'mutate', 'target', folder], check=True)
+def copied():
+    """A fresh copy of the crates, outside the repository, since `rt ci` reads each source in it. What is proved of them `rt check` takes over."""
+    folder = tempfile.mkdtemp(prefix='cironetop-mutants-')
+    atexit.register(shutil.rmtree, folder, ignore_errors=True)
+    for name in ('crates.txt', 'HANDLES'):
+        if os.path.exists(name):
+            shutil.copyfile(name, f'{folder}/{name}')
+    shutil.copytree('crates', f'{folder}/crates', ignore=lambda at, names: ['out'] if os.path.dirname(at) == 'crates' else [])
+    return folder
+
+
+def checked(folder, crate, seconds, words=()):
+    """The status of `rt check` in a crate of a copy, and what it said; no status where it is still at work after so many seconds."""
+    how = {'stdout': subprocess.PIPE, 'stderr': subprocess.STDOUT, 'text': True, 'start_new_session': True}
+    process = subprocess.Popen([*words, 'rt', 'check', '--jobs', '1'], cwd=f'{folder}/crates/{crate}', **how)
+    try:
+        said = process.communicate(timeout=seconds)[0]
+    except subprocess.TimeoutExpired:
+        os.killpg(process.pid, signal.SIGKILL)
+        process.wait()
+        return None, ''
+    return process.returncode, said

@@ -38,8 +38,8 @@ fn main() -> ExitCode {
 
 fn machine() -> &'static str {
     if cfg!(target_arch = "aarch64") {
-        "Machine: aarch64. Library: compiled for aarch64 from the LLVM module of x86-64's (tools/native)."
+        "Machine: aarch64. Library: as tools/native makes it."
     } else {
-        "Machine: x86-64. Library: as rt staticlib writes it."
+        "Machine: x86-64. Library: as tools/library makes it."
     }
 }
