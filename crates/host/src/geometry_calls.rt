@@ -7,15 +7,13 @@ use crate::answers::{CountedNumbers, PlacedNumbers, counted, placed};
 use geometry::{count, rectangle};
 use standard::Frame;
 
-#[unsafe(no_mangle)]
-pub extern "C" fn cironetop_count(f: Frame) -> CountedNumbers
+pub fn cironetop_count(f: Frame) -> CountedNumbers
     ensures { counted_of result ≡ count_answer f }
 {
     counted(count(f))
 }
 
-#[unsafe(no_mangle)]
-pub extern "C" fn cironetop_rectangle(f: Frame, index: u32) -> PlacedNumbers
+pub fn cironetop_rectangle(f: Frame, index: u32) -> PlacedNumbers
     ensures { placed_of result ≡ rectangle_answer f index }
 {
     placed(rectangle(f, index))

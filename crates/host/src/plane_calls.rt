@@ -9,8 +9,7 @@ use edges::capture_edges;
 use restoration::restore_plane;
 use standard::Frame;
 
-#[unsafe(no_mangle)]
-pub extern "C" fn cironetop_restore_plane<'a>(
+pub fn cironetop_restore_plane<'a>(
     f: Frame,
     units: &[i32],
     deblocked: &'a [i32],
@@ -25,8 +24,7 @@ pub extern "C" fn cironetop_restore_plane<'a>(
     restored(restore_plane(f, units, deblocked, cdef, out, scratch))
 }
 
-#[unsafe(no_mangle)]
-pub extern "C" fn cironetop_capture_edges(f: Frame, deblocked: &[i32], edges: &mut [i32]) -> u32
+pub fn cironetop_capture_edges(f: Frame, deblocked: &[i32], edges: &mut [i32]) -> u32
     ensures value { result ≡ first (capture_tests f deblocked.now (length edges.old)) }
     ensures edges_after { edges.new ≡ capture_edges f deblocked.now edges.old }
 {

@@ -4,8 +4,7 @@ ghost use Rattle.standard.specs.Calls.{sample_answer};
 
 use sample::restore_sample;
 
-#[unsafe(no_mangle)]
-pub extern "C" fn cironetop_restore_sample(
+pub fn cironetop_restore_sample(
     depth: u32,
     row: u32,
     kind: i32,

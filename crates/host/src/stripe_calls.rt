@@ -7,8 +7,7 @@ use crate::answers::stored;
 use in_place::restore_stripe;
 use standard::Frame;
 
-#[unsafe(no_mangle)]
-pub extern "C" fn cironetop_restore_stripe(
+pub fn cironetop_restore_stripe(
     f: Frame,
     stripe: u32,
     units: &[i32],

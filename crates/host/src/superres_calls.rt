@@ -7,8 +7,7 @@ use crate::answers::stored;
 use standard::Scaling;
 use superres::upscale_plane;
 
-#[unsafe(no_mangle)]
-pub extern "C" fn cironetop_upscale_plane(s: Scaling, input: &[i32], output: &mut [i32]) -> u32
+pub fn cironetop_upscale_plane(s: Scaling, input: &[i32], output: &mut [i32]) -> u32
     ensures value { result ≡ first (upscale_tests s input.now (length output.old)) }
     ensures output_after { output.new ≡ upscale_out s input.now output.old }
 {
