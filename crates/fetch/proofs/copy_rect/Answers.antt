@@ -51,7 +51,6 @@ loop-y-preserved c = let i = c.before.before.before in (
   omega arith,
   rows_more _ _ _ _ _ _ _ _ _ _ c.copy_run.ensures i.loop-y.invariant.1 (omega (arith, add-mul (a i).args.y0 (y i) (a i).args.w))
       (λ k h. ap (λ (n : ℕ). get_or (a i).args.src.now n (pos 0)) (add_assoc (((a i).args.at + y i) * (a i).args.w) (a i).args.x0 k)),
-
 )
 
 pub shape_of-out : goal.shape_of-out

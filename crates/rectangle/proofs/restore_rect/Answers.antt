@@ -9,10 +9,10 @@ use borrow.Author.Rules.{rules}
 use Rattle.rectangle.proofs.restore_rect.Goals as goal
 
 pub wiener_rect-requires : goal.wiener_rect-requires
-wiener_rect-requires c = let s = c in let p = s.requires.w_in_bounds in  record { w_in_bounds = (p.0, p.2, p.4, p.5, p.6, p.7); legal_taps = subst LegalKind c.in-Wiener.is s.requires.legal_kind.0; fetchable = s.requires.fetchable }
+wiener_rect-requires c = let s = c in let p = s.requires.w_in_bounds in record { w_in_bounds = (p.0, p.2, p.4, p.5, p.6, p.7); legal_taps = subst LegalKind c.in-Wiener.is s.requires.legal_kind.0; fetchable = s.requires.fetchable }
 
 pub guided_rect-requires : goal.guided_rect-requires
-guided_rect-requires c = let s = c in  record { w_in_bounds = s.requires.w_in_bounds; legal_weights = (subst LegalKind c.in-SelfGuided.is s.requires.legal_kind.0, s.requires.legal_kind.1); fetchable = s.requires.fetchable }
+guided_rect-requires c = let s = c in record { w_in_bounds = s.requires.w_in_bounds; legal_weights = (subst LegalKind c.in-SelfGuided.is s.requires.legal_kind.0, s.requires.legal_kind.1); fetchable = s.requires.fetchable }
 
 pub returns-in-None : goal.returns-in-None
 returns-in-None c = let s = c in

@@ -8,8 +8,7 @@ use Rattle.restore_job.proofs.main.Goals as goal
 pub print_report-requires : goal.print_report-requires
 print_report-requires c =
     let q = small _ _ c.in-Done.ensures.result_value in
-    let long : length c.run_job-r.new.out ≡ 1024 = ap length c.in-Done.ensures.out_after ∙ printed_long _ _ (length-replicate 1024 (pos 0)) in
-    (
+    let long : length c.run_job-r.new.out ≡ 1024 = ap length c.in-Done.ensures.out_after ∙ printed_long _ _ (length-replicate 1024 (pos 0)) in (
       omega (arith, q.0, long),
       q.1,
       q.2,

@@ -14,7 +14,7 @@ pub z3_row-requires : goal.z3_row-requires
 z3_row-requires c = let P = c.requires.0 in record { n_bound = (omega (arith, P.before, P.lines, P.order, P.room), omega (arith, P.before, P.lines, P.order, P.room), omega (arith, P.before, P.lines, P.order, P.room, long2 1 _ _ _ _ _ _ _ P _ c.down3_row.ensures _ c.sum3_row.ensures), P.scaled.good); samples = third_squares 1 _ _ _ _ _ _ _ P _ c.down3_row.ensures _ c.sum3_row.ensures; samples_2 = third_sums 1 _ _ _ _ _ _ _ P _ c.down3_row.ensures _ c.sum3_row.ensures }
 
 pub a2_row-requires : goal.a2_row-requires
-a2_row-requires c =    let P = c.requires.0 in
+a2_row-requires c = let P = c.requires.0 in
     (omega (arith, P.before, P.lines, P.order, P.room), omega (arith, P.before, P.lines, P.order, P.room, long3 1 _ _ _ _ _ _ _ P _ c.down3_row.ensures _ c.sum3_row.ensures _ c.z3_row.ensures), fourth_reads 1 _ _ _ _ _ _ _ P _ c.down3_row.ensures _ c.sum3_row.ensures _ c.z3_row.ensures, c.requires.1)
 
 pub b2_row-requires : goal.b2_row-requires

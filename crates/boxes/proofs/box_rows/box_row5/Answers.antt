@@ -14,7 +14,7 @@ pub z5_row-requires : goal.z5_row-requires
 z5_row-requires c = let P = c.requires.0 in record { n_bound = (omega (arith, P.before, P.lines, P.order, P.room), omega (arith, P.before, P.lines, P.order, P.room), omega (arith, P.before, P.lines, P.order, P.room, long2 2 _ _ _ _ _ _ _ P _ c.down5_row.ensures _ c.sum5_row.ensures), P.scaled.good); samples = third_squares 2 _ _ _ _ _ _ _ P _ c.down5_row.ensures _ c.sum5_row.ensures; samples_2 = third_sums 2 _ _ _ _ _ _ _ P _ c.down5_row.ensures _ c.sum5_row.ensures }
 
 pub a2_row-requires : goal.a2_row-requires
-a2_row-requires c =    let P = c.requires.0 in
+a2_row-requires c = let P = c.requires.0 in
     (omega (arith, P.before, P.lines, P.order, P.room), omega (arith, P.before, P.lines, P.order, P.room, long3 2 _ _ _ _ _ _ _ P _ c.down5_row.ensures _ c.sum5_row.ensures _ c.z5_row.ensures), fourth_reads 2 _ _ _ _ _ _ _ P _ c.down5_row.ensures _ c.sum5_row.ensures _ c.z5_row.ensures, c.requires.1)
 
 pub b2_row-requires : goal.b2_row-requires

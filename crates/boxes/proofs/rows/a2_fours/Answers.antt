@@ -38,7 +38,6 @@ loop-j-preserved c = let i = c.before.before.before in let f : ℕ → ℤ = λ 
   stamp_next f _ (a i).args.to (4 * j i) 4 _ (a i).args.s.now i.loop-j.s _ i.loop-j.invariant.1 c.a2_four.ensures (omega arith)
       (λ k h. ap (λ n. pos (a2_of (nat_abs n))) (kept i ((a i).args.from + 4 * j i + k) (omega arith)) ∙ ap (λ n. pos (a2_of (sample_at (a i).args.s.now n))) (omega arith))
       ∙ ap (λ n. stamp f (a i).args.to n (a i).args.s.now) (omega arith),
-
 )
 
 pub shape_of-s : goal.shape_of-s

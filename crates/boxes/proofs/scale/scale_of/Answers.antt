@@ -65,5 +65,4 @@ returns c = let s = c.before.before.before in record {
   eps_is = refl;
   s_is = refl;
   good = record { s_low = s_low s; s_high = s_high s; top_is = refl; sa_is = ap (λ (k : ℕ). 2 * k) c.above_eight-sb.ensures; sb_is = c.above_eight-sb.ensures; ra_is = c.half-ra.ensures; rb_is = c.half-rb.ensures };
-
 }

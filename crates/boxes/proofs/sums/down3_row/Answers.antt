@@ -50,7 +50,7 @@ pub bounds-s-sq : goal.bounds-s-sq
 bounds-s-sq c = let i = c.before.before.before.before in lt-length-set i.loop-j.s _ _ (omega (arith, long i))
 
 pub loop-j-preserved : goal.loop-j-preserved
-loop-j-preserved c =    let i = c.before.before.before.before in
+loop-j-preserved c = let i = c.before.before.before.before in
     let t = c in (
       omega arith,
       pair_more _ _ _ _ _ _ _ _ _ _ _ i.loop-j.invariant.1 (omega arith) (omega arith) (omega arith)

@@ -22,7 +22,7 @@ overflow_sub-result-2 c = safe w32 (end_y c) tt
 
 pub returns : goal.returns
 unfolding block unit_col_of
-returns c =    placed c.unit_col.ensures c.unit_col-2.ensures refl refl
+returns c = placed c.unit_col.ensures c.unit_col-2.ensures refl refl
     c.cut.ensures c.cut-2.ensures
     (returned w32 c.stripe_start_y.type_inv c.stripe_start_y.ensures)
     (returned w32 c.stripe_end_y.type_inv c.stripe_end_y.ensures)

@@ -49,7 +49,7 @@ pub stripe_stop-requires : goal.stripe_stop-requires
 stripe_stop-requires c = let k = c.before.before.before in (k.requires.legal.half, omega (arith, (found k).stripe))
 
 pub overflow_sub-result-2 : goal.overflow_sub-result-2
-overflow_sub-result-2 c =    let k = c in
+overflow_sub-result-2 c = let k = c in
     omega (arith, (found k.before.before.before.before.before).starts, c.least.ensures, c.stripe_stop.ensures, k.stripe_start-y.ensures)
 
 pub stripe_start_y-requires : goal.stripe_start_y-requires
@@ -65,7 +65,7 @@ pub overflow_sub-result-4 : goal.overflow_sub-result-4
 overflow_sub-result-4 c = safe w32 (end_y c) tt
 
 pub returns : goal.returns
-returns c =    let k = columns c in
+returns c = let k = columns c in
     let a = k.args in
     let start = c.stripe_start-y.ensures in
     placed c.unit_row.ensures refl refl start

@@ -13,7 +13,7 @@ block-requires c = let p = passed _ c.requires.f_value in record {
 }
 
 pub returns : goal.returns
-returns c =    let k = c in
+returns c = let k = c in
     let a = k.args in
     c.block.ensures
     ∙ ap4 (λ x y h w. block x y a.f.unit_size h w a.row a.col)

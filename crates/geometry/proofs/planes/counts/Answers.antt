@@ -27,26 +27,26 @@ abbrev made : ℕ → ℕ → ℕ → ℕ → Counts
 made r c s n = record { unit_rows = r; unit_cols = c; stripes = s; rectangles = n }
 
 pub stripes-lines-requires : goal.stripes-lines-requires
-stripes-lines-requires c =    let p = (pass c.before.before).legal in
+stripes-lines-requires c = let p = (pass c.before.before).legal in
     let h = c.height_of-height.ensures in
     (omega (arith, c.sub_of.ensures, p.half), omega (arith, h, p.rows), omega (arith, h, p.high))
 
 pub units-cols-requires : goal.units-cols-requires
-units-cols-requires c =    let p = (pass c.before.before.before.before).legal in
+units-cols-requires c = let p = (pass c.before.before.before.before).legal in
     (p.unit, p.small, omega (arith, c.width_of.ensures, p.wide))
 
 pub units-requires : goal.units-requires
-units-requires c =    let k = c in
+units-requires c = let k = c in
     let p = (pass k.before.before.before.before.before).legal in
     (p.unit, p.small, omega (arith, k.height_of-height.ensures, p.high))
 
 pub overflow_mul-result : goal.overflow_mul-result
-overflow_mul-result c =    let p = (pass c.before.before.before.before.before.before).legal in
+overflow_mul-result c = let p = (pass c.before.before.before.before.before.before).legal in
     omega (arith, count_small _ _ _ _ p (lines c.before.before.before) (columns c.before))
 
 pub returns : goal.returns
 unfolding counts_of rectangles
-returns c =    let k = c in
+returns c = let k = c in
     let l = lines c.before.before.before in
     let m = columns c.before in
     ap4 made (c.units.ensures ∙ ap (λ h. units h k.args.f.unit_size) k.height_of-height.ensures) m l (ap2 (λ a b. a * b) l m)

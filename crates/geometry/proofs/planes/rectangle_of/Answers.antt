@@ -13,7 +13,7 @@ rectangle_at-requires c = record {
 }
 
 pub returns : goal.returns
-returns c =    let k = c in
+returns c = let k = c in
     let a = k.args in
     c.rectangle_at.ensures
     ∙ ap3 (λ s h w. rectangle s a.f.unit_size h w a.index) k.sub_of.ensures c.height_of.ensures c.width_of.ensures

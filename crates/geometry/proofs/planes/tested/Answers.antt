@@ -33,14 +33,14 @@ returns-then-high c = let k = c.before.before in gives_4 _ (is_2 k c.if-plane.fa
 
 pub returns-then-wide : goal.returns-then-wide
 unfolding refusal_number
-returns-then-wide c =    let k = c.before.before.before in
+returns-then-wide c = let k = c.before.before.before in
     gives_4_wide _ (is_2 k c.if-plane.false) (is_4 k c.if-high.false) (is_4_wide k c.if-wide.true)
 
 pub returns-then-size : goal.returns-then-size
 unfolding refusal_number
-returns-then-size c =    let k = c.before.before.before.before in
+returns-then-size c = let k = c.before.before.before.before in
     gives_5 _ (is_2 k c.if-plane.false) (is_4 k c.if-high.false) (is_4_wide k c.if-wide.false) (is_5 k c.if-size.true)
 
 pub returns : goal.returns
-returns c =    let k = c.before.before.before.before in
+returns c = let k = c.before.before.before.before in
     gives_0 _ (is_2 k c.if-plane.false) (is_4 k c.if-high.false) (is_4_wide k c.if-wide.false) (is_5 k c.if-size.false)

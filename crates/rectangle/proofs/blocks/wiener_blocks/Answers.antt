@@ -54,7 +54,6 @@ loop-x-preserved c = let i = c in let l = i.before.before.before.before.before.b
   omega (arith, i.loop-x-test.true),
   c.wiener_block.auto.s ∙ v.2,
   paint_on {A = ℤ} s.args.x0 s.args.y0 l.loop-x.x 64 s.args.rh s.args.w (shown s) s.args.out.now l.loop-x.out _ v.0 v.3 c.wiener_block.ensures (omega (arith, s.requires.w_in_bounds.5.right, i.loop-x-test.true)),
-
 )
 
 pub overflow_sub-n : goal.overflow_sub-n

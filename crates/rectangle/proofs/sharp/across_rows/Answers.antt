@@ -71,7 +71,6 @@ loop-k-preserved c = let i = c.before.before.before.before.before.before.before 
   omega arith,
   rows_more _ _ _ _ _ _ _ _ _ _ c.middle_row.ensures i.loop-k.invariant.1 (omega arith)
       (λ x h. handed_value (a i).args.d (a i).args.t (a i).args.inside.now (a i).args.beside.now (a i).args.w (a i).args.h (a i).args.r (a i).args.x0 (a i).args.y0 (k i) _ _ c.source_row-row.ensures c.near-y.ensures (row_long c.before.before.before.before.before) x),
-
 )
 
 pub shape_of-s : goal.shape_of-s

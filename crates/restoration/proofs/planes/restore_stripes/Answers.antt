@@ -57,7 +57,6 @@ loop-at-preserved c = let p = c.requires in let v = c.loop-at.invariant in let n
   omega (arith, c.loop-at-test.true),
   c.restore_rectangles.auto.s ∙ v.1,
   stripe_added p.asked.0 c.args.deblocked.now c.args.cdef.now c.loop-at.at turn _ (c.whole_source-r.ensures ∙ ap (λ (o : ℕ). whole_source o c.loop-at.at) c.sub_of-own.ensures) _ c.depth_of-d.ensures c.args.out.now c.loop-at.out _ v.2 c.restore_rectangles.ensures,
-
 )
 
 pub shape_of-out : goal.shape_of-out

@@ -62,7 +62,6 @@ loop-k-preserved c = let i = c in let u = i.before.before.before.before.before.b
   omega (arith, k<),
   c.restore_unit.auto.s ∙ v.2,
   painted_more _ _ _ _ _ _ _ (cover (sized p.0) (plane_height s.args.f) (plane_width s.args.f) l.rows l.cols) i.loop-k.k _ _ (below_all s.args.f s.args.at (cols u) i.loop-k.k (ec u) p.1 k<) v.0 p.2 v.3 c.restore_unit.ensures,
-
 )
 
 pub shape_of-out : goal.shape_of-out

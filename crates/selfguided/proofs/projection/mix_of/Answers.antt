@@ -38,5 +38,4 @@ returns c = let s = c.before.before.before in (
     w2_is = is_exact w32 (third s) tt ∙ sym (ap2 (λ x y. pos 128 -ℤ x -ℤ y) (is_exact w32 (first s) tt) (is_exact w32 (second s) tt));
     top_is = returned w32 c.largest-top.type_inv c.largest-top.ensures;
   },
-
 )

@@ -53,5 +53,4 @@ returns c = let s = c in record {
   a_is = ap (λ (n : ℕ). n + s.args.i * (s.args.w + 2)) c.cross_a.ensures;
   b_is = ap (λ (n : ℕ). n + s.args.i * (s.args.w + 2)) c.cross_b.ensures;
   u_is = refl;
-
 }
