@@ -15,7 +15,7 @@ use Rattle.standard.specs.Stripes.{rectangle, rectangles}
 use Rattle.standard.specs.Refusals.{no2, no4, no5, first, count_tests, rectangle_tests, sub_x_of, sub_y_of, plane_height, plane_width}
 use Rattle.standard.specs.Answers.{no_counts, nowhere}
 use Rattle.standard.specs.Calls.{counts_of, count_answer, rectangle_answer}
-use Rattle.standard.proofs.Stripes.{half, Size, s32, s64, s128, s256, size_of}
+use Rattle.standard.proofs.Stripes.{Size, s32, s64, s128, s256, size_of}
 use Rattle.standard.proofs.Frames.{sized_of}
 use Rattle.standard.proofs.Refusals.{count_table}
 use Rattle.geometry.specs.Legal.{Legal}

@@ -11,7 +11,7 @@ use lib.ListN.{length, get_or}
 use lib.Signed.{◌≤ℤ◌, le_z_yes}
 use Rattle.laws.specs.Bounds.{Samples, sample_is}
 use Rattle.laws.specs.Index.{cell_of, cell_lt, of_lt}
-use Rattle.laws.specs.Lists.{plane, plane_at, is_plane}
+use Rattle.laws.specs.Lists.{plane_at, is_plane}
 use Rattle.laws.specs.Tests.{or_no}
 use Rattle.laws.specs.Runs.{stamp, stamp_inside, stamp_length}
 use Rattle.standard.specs.declared.Frame.{Frame}

@@ -17,7 +17,6 @@ use Rattle.standard.specs.Wiener.{wiener}
 use Rattle.standard.specs.SelfGuided.{self_guided, a2_of}
 use Rattle.standard.proofs.Locality.{restored_local}
 use Rattle.standard.proofs.Parity.{restored_parity}
-use Rattle.units.specs.Legal as units
 use Rattle.wiener.specs.Passes.{seen}
 use Rattle.boxes.specs.Tables.{A2Table}
 use Rattle.selfguided.specs.Windows.{Rows}

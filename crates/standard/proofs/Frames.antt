@@ -11,7 +11,6 @@ use Rattle.standard.specs.Wiener.{Grid}
 use Rattle.standard.proofs.Stripes.{Halved, Sized, full, full_128, full_256, full_64, half, half_128, half_256, half_32, half_64, span}
 use Rattle.standard.specs.Fetch.{Shape, fetch, near, restored_at, unit_at, window, restored}
 use Rattle.laws.specs.Tests.{Test, and_l, and_r, test}
-use Rattle.standard.specs.Planes.{above, below}
 use Rattle.standard.specs.Refusals.{no2, no5, sub_y_of}
 use Rattle.standard.specs.Stripes.{stripe_of, stripe_start, stripe_stop}
 

@@ -7,7 +7,6 @@ use lib.ListN.{length}
 use Rattle.units.specs.First.{no15_first}
 use Rattle.edges.proofs.Numbers.{outside, inside}
 use Rattle.asked.proofs.Numbers.{or_first, or_second}
-use borrow.Author.Rules.{rules}
 use Rattle.asked.proofs.bad_samples.Goals as goal
 
 pub returns-then-first_outside-deblocked : goal.returns-then-first_outside-deblocked

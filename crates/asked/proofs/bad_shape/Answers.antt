@@ -9,7 +9,6 @@ use Rattle.laws.specs.Congruence.{ap2}
 use Rattle.standard.specs.Refusals.{samples}
 use Rattle.frames.proofs.Legal.{LegalFrame, legal_frame}
 use Rattle.asked.proofs.Numbers.{shape_first, shape_second, shape_third}
-use borrow.Author.Rules.{rules}
 use Rattle.asked.proofs.bad_shape.Goals as goal
 
 plain : (s : goal.Start) → LegalFrame s.args.f

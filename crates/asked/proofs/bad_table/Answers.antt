@@ -10,7 +10,6 @@ use Rattle.standard.specs.Refusals.{no10, plane_height, plane_width}
 use Rattle.standard.specs.Stripes.{units}
 use Rattle.standard.specs.Calls.{counts_of}
 use Rattle.asked.proofs.Numbers.{unit_counts}
-use borrow.Author.Rules.{rules}
 use Rattle.asked.proofs.bad_table.Lts as lts
 use Rattle.asked.proofs.bad_table.Reads as reads
 use Rattle.asked.proofs.bad_table.Tie as tie

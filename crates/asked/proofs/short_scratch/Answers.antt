@@ -7,7 +7,6 @@ use lib.Dec.{ltb}
 use Rattle.laws.specs.Congruence.{ap2}
 use Rattle.standard.specs.Refusals.{scratch_need}
 use Rattle.frames.proofs.Legal.{LegalFrame, legal_frame}
-use borrow.Author.Rules.{rules}
 use Rattle.asked.proofs.short_scratch.Goals as goal
 
 plain : (s : goal.Start) → LegalFrame s.args.f

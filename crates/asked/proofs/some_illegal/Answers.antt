@@ -4,7 +4,6 @@ use mathlib.Core.Path.{sym, ◌∙◌, ap}
 use lib.Dec.{ltb}
 use lib.ListN.{length}
 use Rattle.units.specs.First.{no11_first}
-use borrow.Author.Rules.{rules}
 use Rattle.asked.proofs.some_illegal.Goals as goal
 
 pub returns : goal.returns

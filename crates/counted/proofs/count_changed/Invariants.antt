@@ -1,18 +1,12 @@
 -- The count so far is the sum so far, at most one for each place passed.
-use mathlib.Core.Path.{◌≡◌, refl, ◌∙◌, ap}
-use mathlib.Core.Bool.{Bool, true, false, cond}
+use mathlib.Core.Path.{◌≡◌}
+use mathlib.Core.Bool.{cond}
 use mathlib.Core.List.{List}
 use Prim.Native.Nat.{ℕ, ◌-◌, ◌≤◌}
-use native.Mathlib.Omega.{arith}
 use lib.IntN.{ℤ, pos, nat_abs}
-use lib.Signed.{◌≤ℤ◌}
 use lib.Dec.{eqb}
 use lib.ListN.{length, get_or}
-use mir.Syntax.{w32}
-use Rattle.laws.specs.Congruence.{ap2}
-use Rattle.laws.specs.ReadBack.{returned, of_read}
 use Rattle.standard.specs.Arithmetic.{sum}
-use Rattle.standard.proofs.Sums.{sum_none, sum_more}
 use Rattle.counted.proofs.count_changed.Given as goal
 
 abbrev pub unlike : ℤ → ℤ → ℕ

@@ -2,7 +2,6 @@
 use mathlib.Core.Path.{sym, ◌∙◌, ap}
 use Rattle.standard.specs.Answers.{of_stored}
 use Rattle.edges.proofs.Numbers.{captured_refused, refused}
-use borrow.Author.Rules.{rules}
 use Rattle.edges.proofs.capture_edges.Goals as goal
 
 pub captured-requires : goal.captured-requires

@@ -8,7 +8,6 @@ use Rattle.standard.specs.Stripes as defined
 use Rattle.standard.specs.Refusals.{sub_y_of, plane_height, plane_width}
 use Rattle.standard.specs.Planes.{captured_slice}
 use Rattle.edges.proofs.Numbers.{Passed, passed, captured_done}
-use borrow.Author.Rules.{rules}
 use Rattle.edges.proofs.captured.Goals as goal
 
 plain : (s : goal.Start) → Passed s.args.f s.args.deblocked.now (length s.args.edges.now)

@@ -1,5 +1,5 @@
 -- Row by row: the rows so far are the rectangle's, and one more run makes it one more row.
-use Prim.Native.Nat.{ℕ, ◌+◌, ◌*◌, ◌-◌, ◌≤◌}
+use Prim.Native.Nat.{ℕ, ◌+◌, ◌*◌, ◌≤◌}
 use mathlib.Core.Path.{◌≡◌, ◌∙◌, ap}
 use native.Mathlib.Omega.{arith}
 use native.Mathlib.Nat.{add-mul, add_assoc}

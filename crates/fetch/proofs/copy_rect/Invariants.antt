@@ -1,12 +1,9 @@
 -- Row by row: the rows so far are the rectangle's, and one more run makes it one more row.
-use Prim.Native.Nat.{ℕ, ◌+◌, ◌*◌, ◌-◌, ◌≤◌}
-use mathlib.Core.Path.{◌≡◌, ◌∙◌, ap}
-use native.Mathlib.Omega.{arith}
-use native.Mathlib.Nat.{add-mul, add_assoc}
-use lib.ListN.{length, get_or}
+use Prim.Native.Nat.{◌+◌, ◌*◌, ◌-◌, ◌≤◌}
+use mathlib.Core.Path.{◌≡◌}
+use lib.ListN.{get_or}
 use lib.IntN.{pos}
-use Rattle.laws.specs.Index.{row_le}
-use Rattle.laws.specs.Rows.{rows, rows_none, rows_more, rows_length}
+use Rattle.laws.specs.Rows.{rows}
 use Rattle.fetch.proofs.copy_rect.Given as goal
 
 abbrev pub invariant-loop-y : goal.invariant-loop-y

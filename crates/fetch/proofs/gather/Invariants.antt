@@ -1,16 +1,11 @@
 -- Row by row: the rows so far are the window's, and one more gathered row makes it one more.
-use Prim.Native.Nat.{ℕ, ◌+◌, ◌*◌, ◌-◌, ◌<◌, ◌≤◌}
-use mathlib.Core.Path.{◌≡◌, ◌∙◌, ap}
-use native.Mathlib.Omega.{arith}
-use lib.ListN.{length, get_or}
-use lib.IntN.{ℤ, pos}
-use mathlib.Core.List.{List}
-use Rattle.laws.specs.Congruence.{ap2}
-use Rattle.laws.specs.Index.{row_le}
-use Rattle.laws.specs.Rows.{rows, rows_none, rows_more, rows_length}
+use Prim.Native.Nat.{◌-◌, ◌≤◌}
+use mathlib.Core.Path.{◌≡◌}
+use lib.ListN.{get_or}
+use lib.IntN.{pos}
+use Rattle.laws.specs.Rows.{rows}
 use Rattle.standard.specs.Fetch as standard
 use Rattle.fetch.specs.Source.{source_row}
-use Rattle.fetch.proofs.Laws.{source_long}
 use Rattle.fetch.proofs.gather.Given as goal
 
 abbrev pub invariant-loop-k : goal.invariant-loop-k

@@ -6,7 +6,6 @@ use lib.ListN.{length, get_or}
 use lib.IntN.{ℤ, pos}
 use Rattle.laws.specs.Runs.{stamp, stamp_same, stamp_next}
 use Rattle.standard.specs.Fetch.{near}
-use borrow.Author.Rules.{rules}
 use Rattle.fetch.proofs.gather_row.Goals as goal
 
 -- the row's values, and the three runs that make them

@@ -1,7 +1,6 @@
 -- The part from k w on, w long, is the row.
 use native.Mathlib.Nat.{add-sub_cancel_left}
 use Rattle.fetch.specs.Source.{row_of}
-use borrow.Author.Rules.{rules}
 use Rattle.fetch.proofs.row_of.Goals as goal
 
 pub returns : goal.returns

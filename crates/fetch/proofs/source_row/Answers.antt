@@ -3,7 +3,6 @@ use mathlib.Core.Path.{◌≡◌, ◌∙◌, ap, subst, sym}
 use Prim.Native.Nat.{ℕ, ◌+◌, ◌*◌, ◌≤◌}
 use borrow.Author.Tests.{lt-ltb, le-ltb}
 use Rattle.fetch.specs.Source.{row_of, source_row}
-use borrow.Author.Rules.{rules}
 use Rattle.fetch.proofs.source_row.Goals as goal
 
 -- a row number as the callee gives it

@@ -2,7 +2,6 @@
 use Prim.Native.Nat.{ℕ, min}
 use mathlib.Core.Path.{◌∙◌, ap}
 use Rattle.fetch.specs.Runs.{make_runs}
-use borrow.Author.Rules.{rules}
 use Rattle.fetch.proofs.split_row.Goals as goal
 
 pub returns : goal.returns

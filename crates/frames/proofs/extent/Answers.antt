@@ -3,8 +3,6 @@ use mathlib.Core.Path.{◌∙◌, ap}
 use native.Mathlib.Omega.{arith}
 use Rattle.standard.specs.Arithmetic.{round_ℕ}
 use Rattle.frames.proofs.Conditions.{sub_small}
-use borrow.Author.Rules.{rules}
-use Rattle.numbers.proofs.round2_u32.Reads as round2-u32-reads
 use Rattle.frames.proofs.extent.Goals as goal
 
 pub round2_u32-requires : goal.round2_u32-requires

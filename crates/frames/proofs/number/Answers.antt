@@ -1,7 +1,6 @@
 -- The number of a refusal: one arm a case, each the definition at that case.
 use mathlib.Core.Path.{sym, ap}
 use Rattle.standard.specs.Answers.{refusal_number}
-use borrow.Author.Rules.{rules}
 use Rattle.frames.proofs.number.Goals as goal
 
 pub returns-in-BadDepth : goal.returns-in-BadDepth

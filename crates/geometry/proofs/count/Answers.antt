@@ -3,7 +3,6 @@ use mathlib.Core.Path.{sym, ◌∙◌, ap}
 use Rattle.geometry.proofs.Tests.{count_done, count_refused}
 use Rattle.standard.specs.Answers.{of_stored}
 use Rattle.standard.proofs.Answers.{refusal_back}
-use borrow.Author.Rules.{rules}
 use Rattle.geometry.proofs.count.Goals as goal
 
 pub counts-requires : goal.counts-requires

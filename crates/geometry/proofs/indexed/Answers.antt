@@ -9,7 +9,6 @@ use Rattle.standard.specs.Answers.{refusal_number}
 use Rattle.standard.specs.Calls.{counts_of}
 use Rattle.standard.specs.Stripes.{rectangles}
 use Rattle.standard.specs.Refusals.{sub_y_of, plane_height, plane_width}
-use borrow.Author.Rules.{rules}
 use Rattle.geometry.proofs.indexed.Lts as lts
 use Rattle.geometry.proofs.indexed.Reads as reads
 use Rattle.geometry.proofs.indexed.Tie as tie

@@ -3,7 +3,6 @@ use mathlib.Core.Path.{sym, ◌∙◌, ap}
 use Rattle.geometry.proofs.Tests.{rectangle_refused}
 use Rattle.standard.specs.Answers.{of_stored}
 use Rattle.standard.proofs.Answers.{refusal_back}
-use borrow.Author.Rules.{rules}
 use Rattle.geometry.proofs.rectangle.Goals as goal
 
 pub indexed-requires : goal.indexed-requires

@@ -1,11 +1,9 @@
 -- Where the form gives its number, that number and the room as it was; else the sections, one after another.
-use mathlib.Core.Path.{◌≡◌, sym, ◌∙◌, ap}
+use mathlib.Core.Path.{sym, ◌∙◌, ap}
 use native.Mathlib.Omega.{arith}
 use Rattle.standard.specs.Answers.{of_job_read}
 use Rattle.standard.proofs.Answers.{job_refused}
-use Rattle.standard.specs.Job.{open_answer}
-use Rattle.job.proofs.Laws.{Found, found_in, room_refused, units_laid, deblocked_laid, cdef_laid}
-use borrow.Author.Rules.{rules}
+use Rattle.job.proofs.Laws.{found_in, room_refused, units_laid, deblocked_laid, cdef_laid}
 use Rattle.job.proofs.read_job.Goals as goal
 
 pub signed_section-requires : goal.signed_section-requires

@@ -2,7 +2,6 @@
 use mathlib.Core.Path.{sym, ap}
 use lib.IntN.{pos}
 use Rattle.standard.specs.Depths.{offset}
-use borrow.Author.Rules.{rules}
 use Rattle.numbers.proofs.offset.Goals as goal
 
 pub returns-in-Eight : goal.returns-in-Eight

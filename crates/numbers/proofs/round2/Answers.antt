@@ -7,7 +7,6 @@ use mir.Facts.{to_z-of_z}
 use Rattle.laws.specs.SignedCode.{Expression, Var, ◌⊕◌, ShrBy, safe, is_exact}
 use Rattle.laws.specs.ReadBack.{one_shifted}
 use Rattle.standard.proofs.Arms.{round2_zero, round2_more}
-use borrow.Author.Rules.{rules}
 use Rattle.numbers.proofs.round2.Goals as goal
 
 -- x + (1 << (n - 1))

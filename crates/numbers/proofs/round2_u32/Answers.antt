@@ -6,7 +6,6 @@ use lib.Pow.{pow_mono}
 use mir.Syntax.{w32}
 use Rattle.laws.specs.ReadBack.{one_shl}
 use Rattle.standard.proofs.Arms.{round_ℕ_zero, round_ℕ_more}
-use borrow.Author.Rules.{rules}
 use Rattle.numbers.proofs.round2_u32.Goals as goal
 
 -- 1 << (n - 1)

@@ -5,7 +5,6 @@ use Rattle.units.specs.Legal.{LegalKind}
 use Rattle.laws.specs.Paint.{paint}
 use Rattle.rectangle.specs.View.{shown_at}
 use Rattle.rectangle.proofs.SoftLaws.{sharp_shown, soft_shown}
-use borrow.Author.Rules.{rules}
 use Rattle.rectangle.proofs.restore_rect.Goals as goal
 
 pub wiener_rect-requires : goal.wiener_rect-requires

@@ -1,6 +1,6 @@
 -- Where a test gives its number, that number and the slices as they were; else the plane and its count.
 use Prim.Native.Nat.{ℕ, ◌≤◌}
-use mathlib.Core.Path.{◌≡◌, refl, sym, ◌∙◌, ap}
+use mathlib.Core.Path.{refl, sym, ◌∙◌, ap}
 use native.Mathlib.Omega.{arith}
 use native.Mathlib.Nat.{mul-le-mul}
 use lib.IntN.{ℤ}
@@ -9,10 +9,9 @@ use mathlib.Core.List.{List}
 use Rattle.standard.specs.declared.Frame.{Frame}
 use Rattle.asked.proofs.Numbers.{PlanePassed}
 use Rattle.standard.specs.Answers.{of_stored}
-use Rattle.standard.specs.Refusals.{first, plane_tests, plane_height, plane_width, samples}
+use Rattle.standard.specs.Refusals.{plane_height, plane_width, samples}
 use Rattle.edges.proofs.Numbers.{refused}
 use Rattle.restoration.proofs.Answers.{passed, written_whole, written_changed, cdef_whole, answer_done, answer_refused, out_done, out_refused}
-use borrow.Author.Rules.{rules}
 use Rattle.restoration.proofs.restore_plane.Goals as goal
 
 area : (f : Frame) {table D C : List ℤ} {out scratch : ℕ} → PlanePassed f table D C out scratch → samples f ≤ 268435456

@@ -1,7 +1,6 @@
 -- Frame type 0 copies the CDEF plane, which is the definition there; else every stripe is restored.
 use native.Mathlib.Omega.{arith}
 use Rattle.restoration.proofs.Answers.{passed, legal_cdef, legal_deblocked, asked_of, copied}
-use borrow.Author.Rules.{rules}
 use Rattle.restoration.proofs.write_plane.Goals as goal
 
 pub copy_run-requires : goal.copy_run-requires

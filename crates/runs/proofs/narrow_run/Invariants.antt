@@ -1,12 +1,9 @@
 -- As for the run of 32 bits; each sample fits 16 bits by its bound.
-use Prim.Native.Nat.{ℕ, ◌+◌, ◌-◌, ◌≤◌}
-use mathlib.Core.Path.{◌≡◌, refl, ◌∙◌, ap}
-use native.Mathlib.Omega.{arith}
-use lib.ListN.{length, get_or}
+use Prim.Native.Nat.{◌+◌, ◌-◌, ◌≤◌}
+use mathlib.Core.Path.{◌≡◌}
+use lib.ListN.{get_or}
 use lib.IntN.{pos}
-use mir.Syntax.{w16, w32}
-use Rattle.laws.specs.ReadBack.{returned, abs_at}
-use Rattle.laws.specs.Runs.{stamp, stamp_none, stamp_more, stamp_length}
+use Rattle.laws.specs.Runs.{stamp}
 use Rattle.runs.proofs.narrow_run.Given as goal
 
 abbrev pub invariant-loop-x : goal.invariant-loop-x

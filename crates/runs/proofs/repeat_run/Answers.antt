@@ -1,6 +1,6 @@
 -- The run so far is the stamp of x samples; one more store makes it x + 1.
-use Prim.Native.Nat.{ℕ, ◌-◌, ◌≤◌}
-use mathlib.Core.Path.{◌≡◌, refl, ◌∙◌, ap}
+use Prim.Native.Nat.{ℕ}
+use mathlib.Core.Path.{refl, ◌∙◌, ap}
 use native.Mathlib.Omega.{arith}
 use lib.ListN.{length, get_or}
 use lib.IntN.{pos}

@@ -8,7 +8,6 @@ use Rattle.laws.specs.SignedCode.{Lit, Nat, ◌⊝◌, safe, is_exact}
 use Rattle.standard.specs.Answers.{of_stored}
 use Rattle.standard.proofs.Answers.{refusal_back}
 use Rattle.sample.proofs.Numbers.{sample_refused, few_numbers, less_than_none}
-use borrow.Author.Rules.{rules}
 use Rattle.sample.proofs.entry_sample.Goals as goal
 
 few : (c : goal.After-number) → c.number.result ≤ 16

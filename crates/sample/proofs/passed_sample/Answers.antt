@@ -13,8 +13,7 @@ use Rattle.standard.specs.Fetch.{restored}
 use Rattle.units.specs.Legal.{LegalKind}
 use Rattle.units.proofs.Legal.{legal_kind}
 use Rattle.sample.specs.Seen.{seen_at}
-use Rattle.sample.proofs.Numbers.{Passed, passed, unpacked, seen_bytes, sample_done}
-use borrow.Author.Rules.{rules}
+use Rattle.sample.proofs.Numbers.{passed, unpacked, seen_bytes, sample_done}
 use Rattle.sample.proofs.passed_sample.Goals as goal
 
 pub unpack-requires : goal.unpack-requires

@@ -5,7 +5,6 @@ use mir.Syntax.{w32}
 use Rattle.laws.specs.ReadBack.{returned}
 use Rattle.standard.specs.Calls.{sample_answer}
 use Rattle.sample.proofs.Laws.{ten}
-use borrow.Author.Rules.{rules}
 use Rattle.sample.proofs.restore_sample.Goals as goal
 
 pub returns : goal.returns

@@ -1,6 +1,5 @@
 -- The passes make the scratch ready, and the rows of results read the window that the call found.
 use Rattle.selfguided.proofs.CallLaws.{window_of, eps_first, eps_second, between, ready_at, results}
-use borrow.Author.Rules.{rules}
 use Rattle.selfguided.proofs.selfguided_window.Goals as goal
 
 pub params_of-p-requires : goal.params_of-p-requires

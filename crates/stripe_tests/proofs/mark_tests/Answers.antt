@@ -1,20 +1,16 @@
 -- Each return is the number of the first test that holds, at the count of stripes that the callees ensure.
 use mathlib.Core.Path.{◌≡◌, ◌∙◌, ap}
 use Rattle.standard.specs.Answers.{refusal_number}
-use mathlib.Core.Bool.{Bool, true, false}
+use mathlib.Core.Bool.{Bool}
 use mathlib.Core.List.{List}
 use Rattle.standard.specs.declared.Frame.{Frame}
 use Prim.Native.Nat.{ℕ, ◌<◌}
 use native.Mathlib.Omega.{arith}
 use borrow.Author.Tests.{eq-eqb, ne_eqb, le-leb, lt-leb}
-use lib.Dec.{leb, eqb}
-use lib.ListN.{get_or}
 use Rattle.laws.specs.Congruence.{ap2}
 use Rattle.standard.specs.Stripes as defined
 use Rattle.standard.specs.Refusals.{no12, plane_height, sub_y_of}
-use Rattle.frames.proofs.Legal.{LegalFrame}
 use Rattle.stripe_tests.proofs.Laws.{here, legal, marks_long, past, told}
-use borrow.Author.Rules.{rules}
 use Rattle.stripe_tests.proofs.mark_tests.Goals as goal
 
 -- the count of stripes

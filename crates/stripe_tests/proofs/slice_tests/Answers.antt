@@ -1,13 +1,10 @@
 -- Each return is the number of the first test that holds.
-use mathlib.Core.Path.{◌≡◌}
-use mathlib.Core.Bool.{false, not}
 use borrow.Author.Tests.{eqb-true, not-false}
 use lib.Dec.{eqb}
 use lib.ListN.{length}
 use Rattle.standard.specs.Refusals.{samples}
 use Rattle.standard.specs.Answers.{refusal_number}
 use Rattle.stripe_tests.proofs.Laws.{here, past, told}
-use borrow.Author.Rules.{rules}
 use Rattle.stripe_tests.proofs.slice_tests.Goals as goal
 
 pub bad_length-requires : goal.bad_length-requires

@@ -2,7 +2,6 @@
 use mathlib.Core.Path.{sym, ◌∙◌}
 use Rattle.standard.specs.Answers.{refusal_number}
 use Rattle.stripe_tests.proofs.Laws.{here, or_left, or_right, past, told}
-use borrow.Author.Rules.{rules}
 use Rattle.stripe_tests.proofs.stripe_tests.Goals as goal
 
 pub returns-then-bad_depth : goal.returns-then-bad_depth

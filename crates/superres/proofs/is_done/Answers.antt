@@ -5,7 +5,6 @@ use borrow.Author.Tests.{ne_eqb}
 use lib.Dec.{eqb}
 use Rattle.standard.specs.Answers.{refusal_number, of_stored}
 use Rattle.standard.proofs.Answers.{refusal_back}
-use borrow.Author.Rules.{rules}
 use Rattle.superres.proofs.is_done.Goals as goal
 
 pub returns-in-Done : goal.returns-in-Done

@@ -4,7 +4,6 @@ use borrow.Author.Tests.{eqb-true}
 use lib.Dec.{eqb}
 use Rattle.laws.specs.Tests.{cond_true, cond_false}
 use Rattle.standard.specs.Calls.{upscale_out}
-use borrow.Author.Rules.{rules}
 use Rattle.superres.proofs.upscale_plane.Goals as goal
 
 pub write-requires : goal.write-requires

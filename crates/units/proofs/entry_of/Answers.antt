@@ -2,7 +2,6 @@
 use mathlib.Core.Path.{sym, ◌∙◌, ap, subst}
 use Rattle.units.specs.Legal.{LegalKind}
 use Rattle.units.specs.Entry.{entry_of}
-use borrow.Author.Rules.{rules}
 use Rattle.units.proofs.entry_of.Goals as goal
 
 pub guided_entry-requires : goal.guided_entry-requires

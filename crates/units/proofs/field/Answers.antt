@@ -3,7 +3,6 @@ use mathlib.Core.Path.{refl}
 use mir.Syntax.{w32}
 use Rattle.laws.specs.ReadBack.{returned}
 use Rattle.standard.specs.Units.{field}
-use borrow.Author.Rules.{rules}
 use Rattle.units.proofs.field.Goals as goal
 
 pub returns : goal.returns

@@ -1,10 +1,6 @@
 -- The entries before e are legal; the first that is not is the answer.
-use Prim.Native.Nat.{◌-◌, ◌≤◌}
 use native.Mathlib.Omega.{arith}
 use mathlib.Core.Path.{sym}
-use lib.Dec.{T}
-use Rattle.laws.specs.Lists.{all_below}
-use Rattle.standard.specs.Units.{legal_entry}
 use Rattle.units.specs.First.{first_illegal, first_at}
 use Rattle.units.proofs.Conditions.{answer_no, answer_yes}
 use Rattle.units.proofs.Search.{none_yet, one_more, all_passed}

@@ -5,7 +5,6 @@ use mir.Syntax.{w32}
 use mir.Facts.{to_z_pos}
 use Rattle.laws.specs.ReadBack.{returned}
 use Rattle.units.proofs.Entries.{guided_list}
-use borrow.Author.Rules.{rules}
 use Rattle.units.proofs.guided_entry.Goals as goal
 
 pub returns : goal.returns

@@ -2,7 +2,6 @@
 use mathlib.Core.Path.{◌∙◌}
 use lib.IntN.{pos}
 use Rattle.units.proofs.Conditions.{same_number, other_number, entry_none, entry_wiener, entry_guided, entry_other}
-use borrow.Author.Rules.{rules}
 use Rattle.units.proofs.legal_entry.Goals as goal
 
 pub returns-then-kind-eq0 : goal.returns-then-kind-eq0

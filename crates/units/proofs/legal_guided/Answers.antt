@@ -6,7 +6,6 @@ use Rattle.laws.specs.Congruence.{ap2}
 use Rattle.laws.specs.ReadBack.{returned}
 use Rattle.standard.specs.Units.{between, legal_weights}
 use Rattle.units.proofs.Conditions.{guided_no, guided_last}
-use borrow.Author.Rules.{rules}
 use Rattle.std.proofs.lemmas.Bool.{not_from_false, not_from_true}
 use Rattle.units.proofs.legal_guided.Goals as goal
 

@@ -4,7 +4,6 @@ use lib.IntN.{pos, negsuc}
 use mir.Facts.{to_z-of_z}
 use Rattle.standard.specs.Units.{between}
 use Rattle.units.proofs.Conditions.{weights_no, weights_last}
-use borrow.Author.Rules.{rules}
 use Rattle.std.proofs.lemmas.Bool.{not_from_false, not_from_true}
 use Rattle.units.proofs.legal_weights.Goals as goal
 

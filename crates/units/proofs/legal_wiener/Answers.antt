@@ -5,7 +5,6 @@ use Rattle.laws.specs.Congruence.{ap3}
 use Rattle.laws.specs.ReadBack.{returned}
 use Rattle.standard.specs.Units.{legal_taps}
 use Rattle.units.proofs.Conditions.{wiener_no, wiener_last}
-use borrow.Author.Rules.{rules}
 use Rattle.std.proofs.lemmas.Bool.{not_from_false, not_from_true}
 use Rattle.units.proofs.legal_wiener.Goals as goal
 

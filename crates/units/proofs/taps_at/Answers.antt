@@ -2,7 +2,6 @@
 use mir.Syntax.{w32}
 use Rattle.laws.specs.ReadBack.{returned}
 use Rattle.units.proofs.Entries.{same_taps}
-use borrow.Author.Rules.{rules}
 use Rattle.units.proofs.taps_at.Goals as goal
 
 pub returns : goal.returns

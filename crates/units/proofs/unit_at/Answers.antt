@@ -6,7 +6,6 @@ use Rattle.standard.specs.declared.Kind.TheVariants.{Wiener, SelfGuided}
 use Rattle.units.proofs.Conditions.{same_number, other_number, entry_guided}
 use Rattle.units.proofs.Legal.{kind_wiener, kind_guided}
 use Rattle.units.proofs.Entries.{kind_rest}
-use borrow.Author.Rules.{rules}
 use Rattle.units.proofs.unit_at.Goals as goal
 
 pub returns-then-which-eq1 : goal.returns-then-which-eq1

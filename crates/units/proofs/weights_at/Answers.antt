@@ -4,7 +4,6 @@ use lib.Dec.{lit<}
 use Rattle.laws.specs.ReadBack.{returned, cast_unsigned_at}
 use Rattle.units.proofs.Legal.{set_low, set_high}
 use Rattle.units.proofs.Entries.{same_weights}
-use borrow.Author.Rules.{rules}
 use Rattle.units.proofs.weights_at.Goals as goal
 
 pub overflow_cast-result : goal.overflow_cast-result

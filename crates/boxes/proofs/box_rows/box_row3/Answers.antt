@@ -1,7 +1,6 @@
 -- Each step reads what the steps before it left: `Pipe` says what that is.
 use native.Mathlib.Omega.{arith}
 use Rattle.boxes.proofs.Pipe.{first_reads, second_reads, third_squares, third_sums, fourth_reads, fifth_shares, fifth_sums, boxed, long1, long2, long3, long4}
-use borrow.Author.Rules.{rules}
 use Rattle.boxes.proofs.box_rows.box_row3.Goals as goal
 
 pub down3_row-requires : goal.down3_row-requires

@@ -6,7 +6,6 @@ use lib.IntN.{pos}
 use mir.Syntax.{w32}
 use Rattle.laws.specs.ReadBack.{returned}
 use Rattle.standard.specs.SelfGuided.{a2_of}
-use borrow.Author.Rules.{rules}
 use Rattle.boxes.proofs.rows.a2_at.Goals as goal
 
 below : (c : goal.After-word-z) → c.word-z.result < 256

@@ -12,7 +12,6 @@ use Rattle.laws.specs.Bounds.{samples_part}
 use Rattle.laws.specs.Runs.{stamp_none, stamp_more}
 use Rattle.standard.specs.SelfGuided.{a2_of}
 use Rattle.boxes.specs.Reads.{sample_at}
-use borrow.Author.Rules.{rules}
 use Rattle.boxes.proofs.rows.a2_four.Goals as goal
 
 -- the slice after each store

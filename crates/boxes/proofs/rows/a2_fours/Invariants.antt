@@ -1,11 +1,8 @@
 -- The run so far is the stamp of 4 j values of a2; four more are one more run, read where nothing was written.
-use Prim.Native.Nat.{ℕ, ◌+◌, ◌*◌, ◌-◌, ◌≤◌, ◌<◌}
-use mathlib.Core.Path.{◌≡◌, ◌∙◌, ap}
-use native.Mathlib.Omega.{arith}
-use lib.ListN.{length, get_or}
-use lib.IntN.{ℤ, pos, nat_abs}
-use Rattle.laws.specs.Bounds.{samples_part, samples_same}
-use Rattle.laws.specs.Runs.{stamp, stamp_none, stamp_next, stamp_length, stamp_before}
+use Prim.Native.Nat.{◌+◌, ◌*◌, ◌-◌, ◌≤◌}
+use mathlib.Core.Path.{◌≡◌}
+use lib.IntN.{pos}
+use Rattle.laws.specs.Runs.{stamp}
 use Rattle.standard.specs.SelfGuided.{a2_of}
 use Rattle.boxes.specs.Reads.{sample_at}
 use Rattle.boxes.proofs.rows.a2_fours.Given as goal

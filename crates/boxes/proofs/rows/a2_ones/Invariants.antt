@@ -1,14 +1,8 @@
 -- The run so far is the stamp of j values of a2; what is read lies before it and is as it was.
-use Prim.Native.Nat.{ℕ, ◌+◌, ◌-◌, ◌≤◌, ◌<◌}
-use mathlib.Core.Path.{◌≡◌, ◌∙◌, ap}
-use native.Mathlib.Omega.{arith}
-use lib.ListN.{length, get_or}
+use Prim.Native.Nat.{◌+◌, ◌-◌, ◌≤◌}
+use mathlib.Core.Path.{◌≡◌}
 use lib.IntN.{pos}
-use mir.Syntax.{w32}
-use Rattle.laws.specs.ReadBack.{returned}
-use Rattle.laws.specs.Bounds.{samples_part, samples_same}
-use Rattle.laws.specs.Runs.{stamp, stamp_none, stamp_more, stamp_length, stamp_before}
-use lib.IntN.{nat_abs}
+use Rattle.laws.specs.Runs.{stamp}
 use Rattle.standard.specs.SelfGuided.{a2_of}
 use Rattle.boxes.specs.Reads.{sample_at}
 use Rattle.boxes.proofs.rows.a2_ones.Given as goal

@@ -8,7 +8,6 @@ use Rattle.laws.specs.Bounds.{samples_part, samples_same}
 use Rattle.laws.specs.Runs.{stamp, stamp_next, stamp_length, stamp_before}
 use Rattle.standard.specs.SelfGuided.{a2_of}
 use Rattle.boxes.specs.Reads.{sample_at}
-use borrow.Author.Rules.{rules}
 use Rattle.boxes.proofs.rows.a2_row.Lts as lts
 use Rattle.boxes.proofs.rows.a2_row.Reads as reads
 use Rattle.boxes.proofs.rows.a2_row.Tie as tie

@@ -1,14 +1,9 @@
 -- The run so far is the stamp of z values of a2; all 256 are the listing.
-use Prim.Native.Nat.{ℕ, ◌-◌, ◌≤◌}
-use mathlib.Core.Path.{◌≡◌, ◌∙◌, ap}
-use native.Mathlib.Omega.{arith}
+use Prim.Native.Nat.{◌-◌, ◌≤◌}
+use mathlib.Core.Path.{◌≡◌}
 use lib.IntN.{pos}
-use mir.Syntax.{w32}
-use Rattle.laws.specs.Lists.{stamp_listing}
-use Rattle.laws.specs.ReadBack.{returned}
-use Rattle.laws.specs.Runs.{stamp, stamp_none, stamp_more}
+use Rattle.laws.specs.Runs.{stamp}
 use Rattle.standard.specs.SelfGuided.{a2_of}
-use Rattle.boxes.proofs.ScaleLaws.{a2_most}
 use Rattle.boxes.proofs.rows.table.Given as goal
 
 abbrev pub invariant-loop-z : goal.invariant-loop-z

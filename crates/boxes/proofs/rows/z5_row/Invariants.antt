@@ -1,19 +1,10 @@
 -- The run so far is the stamp of j values of z; what is read lies before it and is as it was.
-use Prim.Native.Nat.{ℕ, ◌+◌, ◌*◌, ◌-◌, ◌≤◌, ◌<◌}
-use mathlib.Core.Path.{◌≡◌, ◌∙◌, ap}
-use native.Mathlib.Omega.{arith}
-use lib.ListN.{length, get_or}
+use Prim.Native.Nat.{◌+◌, ◌-◌, ◌≤◌}
+use mathlib.Core.Path.{◌≡◌}
 use lib.IntN.{pos}
-use mir.Syntax.{w32}
-use Rattle.laws.specs.ReadBack.{returned}
-use Rattle.laws.specs.Bounds.{Samples, samples_part, samples_same}
-use Rattle.laws.specs.Runs.{stamp, stamp_none, stamp_more, stamp_length, stamp_before}
-use lib.IntN.{nat_abs}
-use Rattle.laws.specs.Congruence.{ap2}
-use Rattle.standard.specs.Depths.{largest}
+use Rattle.laws.specs.Runs.{stamp}
 use Rattle.boxes.specs.Reads.{sample_at, sums}
 use Rattle.boxes.specs.Scales.{z_of}
-use Rattle.boxes.proofs.SumLaws.{sums_kept}
 use Rattle.boxes.proofs.rows.z5_row.Given as goal
 
 abbrev pub invariant-loop-j : goal.invariant-loop-j

@@ -3,7 +3,6 @@ use mathlib.Core.Path.{refl}
 use mir.Syntax.{w32}
 use Rattle.laws.specs.ReadBack.{returned}
 use Rattle.boxes.proofs.Words.{as_word}
-use borrow.Author.Rules.{rules}
 use Rattle.boxes.proofs.samples.word.Goals as goal
 
 pub overflow_cast-result : goal.overflow_cast-result

@@ -2,7 +2,6 @@
 use Prim.Native.Nat.{◌-◌}
 use mathlib.Core.Path.{sym, ap}
 use Rattle.standard.specs.Depths.{bits}
-use borrow.Author.Rules.{rules}
 use Rattle.boxes.proofs.scale.above_eight.Goals as goal
 
 pub returns-in-Eight : goal.returns-in-Eight

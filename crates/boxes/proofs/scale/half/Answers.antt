@@ -4,7 +4,6 @@ use mathlib.Core.Path.{ap}
 use native.Mathlib.Omega.{arith}
 use mir.Syntax.{w32}
 use Rattle.laws.specs.ReadBack.{one_shl}
-use borrow.Author.Rules.{rules}
 use Rattle.boxes.proofs.scale.half.Goals as goal
 
 pub returns : goal.returns

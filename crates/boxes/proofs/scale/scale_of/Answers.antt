@@ -4,7 +4,6 @@ use mathlib.Core.Path.{refl, ap}
 use native.Mathlib.Omega.{arith}
 use Rattle.standard.specs.SelfGuided.{area, scale}
 use Rattle.boxes.proofs.ScaleLaws.{area_high, area_square, ne_high, ne_low, scale_low, scale_high, bits_most}
-use borrow.Author.Rules.{rules}
 use Rattle.boxes.proofs.scale.scale_of.Goals as goal
 
 module _ (c : goal.Start) where

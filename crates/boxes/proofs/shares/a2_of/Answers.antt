@@ -2,7 +2,6 @@
 use mathlib.Core.Path.{sym}
 use native.Mathlib.Omega.{arith}
 use Rattle.standard.proofs.Arms.{a2_high, a2_zero, a2_middle}
-use borrow.Author.Rules.{rules}
 use Rattle.boxes.proofs.shares.a2_of.Goals as goal
 
 pub returns-then-z-ge255 : goal.returns-then-z-ge255

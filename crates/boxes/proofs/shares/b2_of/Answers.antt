@@ -4,7 +4,6 @@ use mathlib.Core.Path.{refl}
 use native.Mathlib.Omega.{arith}
 use native.Mathlib.Nat.{mul-le-mul, mul_assoc}
 use Rattle.standard.specs.Arithmetic.{round_ℕ}
-use borrow.Author.Rules.{rules}
 use Rattle.boxes.proofs.shares.b2_of.Goals as goal
 
 small : (c : goal.Start) → (256 - c.args.a2) * c.args.b * c.args.o ≤ 4281322500

@@ -6,7 +6,6 @@ use mir.Syntax.{w32}
 use mir.Facts.{to_z_pos}
 use Rattle.laws.specs.Integers.{lt_in, le_in}
 use Rattle.laws.specs.ReadBack.{lt_yes, lt_no}
-use borrow.Author.Rules.{rules}
 use Rattle.boxes.proofs.shares.least.Goals as goal
 
 pub returns-then-p-q : goal.returns-then-p-q

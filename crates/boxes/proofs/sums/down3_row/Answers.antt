@@ -1,5 +1,5 @@
 -- Both runs so far are stamps of j values; what is read lies before them and is as it was.
-use Prim.Native.Nat.{ℕ, ◌+◌, ◌*◌, ◌-◌, ◌≤◌, ◌<◌}
+use Prim.Native.Nat.{ℕ, ◌+◌, ◌*◌, ◌<◌}
 use mathlib.Core.Path.{◌≡◌, ◌∙◌, ap}
 use native.Mathlib.Omega.{arith}
 use lib.ListN.{length, get_or}

@@ -6,7 +6,6 @@ use native.Mathlib.Nat.{mul-le-mul}
 use Rattle.laws.specs.Congruence.{ap5}
 use Rattle.laws.specs.Bounds.{samples_part}
 use Rattle.boxes.proofs.SumLaws.{squares5_is}
-use borrow.Author.Rules.{rules}
 use Rattle.boxes.proofs.sums.squares5_at.Goals as goal
 
 small0 : (c : goal.After-square_at) → c.square_at.result ≤ 16769025

@@ -4,7 +4,6 @@ use mathlib.Core.Path.{◌∙◌, sym, subst}
 use native.Mathlib.Omega.{arith}
 use Rattle.laws.specs.Congruence.{ap3}
 use Rattle.boxes.proofs.SumLaws.{sum3_is}
-use borrow.Author.Rules.{rules}
 use Rattle.boxes.proofs.sums.sum3_at.Goals as goal
 
 small0 : (c : goal.After-word) → c.word.result ≤ 83845125

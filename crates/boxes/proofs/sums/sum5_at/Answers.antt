@@ -4,7 +4,6 @@ use mathlib.Core.Path.{◌∙◌, sym, subst}
 use native.Mathlib.Omega.{arith}
 use Rattle.laws.specs.Congruence.{ap5}
 use Rattle.boxes.proofs.SumLaws.{sum5_is}
-use borrow.Author.Rules.{rules}
 use Rattle.boxes.proofs.sums.sum5_at.Goals as goal
 
 small0 : (c : goal.After-word) → c.word.result ≤ 83845125

@@ -7,7 +7,6 @@ use Rattle.standard.specs.Stripes as defined
 use Rattle.standard.specs.Planes as planes
 use borrow.Author.Tests.{lt-ltb, le-ltb}
 use Rattle.edges.proofs.Laws.{boundary_room}
-use borrow.Author.Rules.{rules}
 use Rattle.edges.proofs.rows.above.Goals as goal
 
 room : (c : goal.Else-stripes-s) → 4 * c.args.w * (c.args.s - 1) + 4 * c.args.w ≤ length c.args.edges.now

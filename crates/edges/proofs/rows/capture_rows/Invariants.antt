@@ -1,15 +1,11 @@
 -- Row by row: the rows so far are the boundaries' rows; all of them are the captured slice.
-use Prim.Native.Nat.{ℕ, ◌+◌, ◌*◌, ◌-◌, ◌/◌, ◌%◌, ◌≤◌}
-use mathlib.Core.Path.{◌≡◌, ◌∙◌, ap}
-use native.Mathlib.Omega.{arith}
-use lib.ListN.{length, get_or}
+use Prim.Native.Nat.{◌+◌, ◌*◌, ◌-◌, ◌/◌, ◌%◌, ◌≤◌}
+use mathlib.Core.Path.{◌≡◌}
+use lib.ListN.{get_or}
 use lib.IntN.{pos}
-use Rattle.laws.specs.Index.{row_le}
-use Rattle.laws.specs.Rows.{rows, rows_none, rows_more, rows_length}
+use Rattle.laws.specs.Rows.{rows}
 use Rattle.standard.specs.Stripes as defined
 use Rattle.standard.specs.Planes.{edge_row}
-use Rattle.frames.proofs.Legal.{halved}
-use Rattle.edges.proofs.Laws.{some_stripe, few_stripes, rows_room, edge_in, captured_is}
 use Rattle.edges.proofs.rows.capture_rows.Given as goal
 
 abbrev pub invariant-loop-k : goal.invariant-loop-k

@@ -5,7 +5,6 @@ use native.Mathlib.Omega.{arith}
 use Rattle.standard.specs.Planes.{edge_row}
 use Rattle.frames.proofs.Legal.{halved}
 use Rattle.edges.proofs.Laws.{start_later}
-use borrow.Author.Rules.{rules}
 use Rattle.edges.proofs.rows.edge_row.Goals as goal
 
 pub overflow_sub-b : goal.overflow_sub-b

@@ -4,7 +4,6 @@ use mathlib.Core.Path.{◌≡◌, sym, ◌∙◌}
 use Rattle.standard.specs.Answers.{refusal_number}
 use Rattle.standard.specs.Refusals.{no1, no2, no4}
 use Rattle.edges.proofs.Numbers.{gives_1, gives_2, gives_4, gives_4_wide}
-use borrow.Author.Rules.{rules}
 use Rattle.edges.proofs.tests.capture_tests.Lts as lts
 use Rattle.edges.proofs.tests.capture_tests.Reads as reads
 use Rattle.edges.proofs.tests.capture_tests.Tie as tie

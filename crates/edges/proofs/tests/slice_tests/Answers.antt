@@ -10,7 +10,6 @@ use Rattle.standard.specs.Refusals.{sub_y_of, plane_height, plane_width, samples
 use Rattle.frames.proofs.Legal.{halved, LegalFrame, legal_frame}
 use Rattle.edges.proofs.Laws.{some_stripe, few_stripes}
 use Rattle.edges.proofs.Numbers.{gives_7, gives_9, gives_15, gives_0, outside, inside}
-use borrow.Author.Rules.{rules}
 use Rattle.edges.proofs.tests.slice_tests.Goals as goal
 
 plain : (s : goal.Start) → LegalFrame s.args.f

@@ -5,7 +5,6 @@ use Rattle.laws.specs.ReadBack.{returned}
 use Rattle.laws.specs.SignedCode.{Expression, safe, is_exact}
 use Rattle.geometry.proofs.Laws.{last_one, placed}
 use Rattle.standard.specs.Stripes.{block, unit_col_of}
-use borrow.Author.Rules.{rules}
 use Rattle.geometry.proofs.places.block.Goals as goal
 
 abbrev end_x : goal.After-stripe_end_y → Expression

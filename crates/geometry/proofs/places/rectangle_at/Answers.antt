@@ -7,8 +7,6 @@ use Rattle.laws.specs.Congruence.{ap2}
 use Rattle.laws.specs.ReadBack.{returned}
 use Rattle.laws.specs.SignedCode.{Expression, safe, is_exact}
 use Rattle.geometry.proofs.Laws.{Indexed, indexed, last_one, placed, rectangle_by}
-use Rattle.standard.specs.Stripes.{right}
-use borrow.Author.Rules.{rules}
 use Rattle.geometry.proofs.places.rectangle_at.Goals as goal
 
 found : (c : goal.After-units-cols) → let a = c.args in Indexed a.sub_y a.size a.height a.width c.units-cols.result a.index

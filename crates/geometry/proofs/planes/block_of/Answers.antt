@@ -3,7 +3,6 @@ use mathlib.Core.Path.{◌∙◌}
 use Rattle.laws.specs.Congruence.{ap4}
 use Rattle.geometry.proofs.Tests.{passed}
 use Rattle.standard.specs.Stripes.{block}
-use borrow.Author.Rules.{rules}
 use Rattle.geometry.proofs.planes.block_of.Goals as goal
 
 pub block-requires : goal.block-requires

@@ -3,7 +3,6 @@ use mathlib.Core.Path.{◌∙◌}
 use Rattle.laws.specs.Congruence.{ap3}
 use Rattle.geometry.proofs.Tests.{passed}
 use Rattle.standard.specs.Stripes.{rectangle}
-use borrow.Author.Rules.{rules}
 use Rattle.geometry.proofs.planes.rectangle_of.Goals as goal
 
 pub rectangle_at-requires : goal.rectangle_at-requires

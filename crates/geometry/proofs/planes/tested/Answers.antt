@@ -4,7 +4,6 @@ use mathlib.Core.Path.{◌≡◌, sym, ◌∙◌}
 use Rattle.geometry.proofs.Tests.{gives_2, gives_4, gives_4_wide, gives_5, gives_0}
 use Rattle.standard.specs.Answers.{refusal_number}
 use Rattle.standard.specs.Refusals.{no2, no4, no5}
-use borrow.Author.Rules.{rules}
 use Rattle.geometry.proofs.planes.tested.Lts as lts
 use Rattle.geometry.proofs.planes.tested.Reads as reads
 use Rattle.geometry.proofs.planes.tested.Tie as tie

@@ -1,6 +1,5 @@
 -- A frame that passes has a legal side and subsampling.
 use Rattle.geometry.proofs.Tests.{passed}
-use borrow.Author.Rules.{rules}
 use Rattle.geometry.proofs.planes.width_of.Goals as goal
 
 pub extent-requires : goal.extent-requires

@@ -6,7 +6,6 @@ use mir.Syntax.{w32}
 use Rattle.laws.specs.SignedCode.{Expression, Nat, Lit, Held, ◌⊕◌, ◌⊝◌, lhs, safe, is_exact}
 use Rattle.geometry.proofs.Laws.{start_small, rows_small}
 use Rattle.standard.specs.Stripes.{stripe_start_y_of, stripe_end_y_of}
-use borrow.Author.Rules.{rules}
 use Rattle.geometry.proofs.stripes.stripe_end_y.Goals as goal
 
 abbrev end : goal.After-stripe_start_y-start → Expression

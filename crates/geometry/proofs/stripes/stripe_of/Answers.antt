@@ -4,7 +4,6 @@ use mathlib.Core.Path.{ap}
 use Prim.Native.Nat.{◌+◌, ◌/◌}
 use Rattle.geometry.proofs.Laws.{luma_kept}
 use Rattle.standard.specs.Stripes.{stripe_of}
-use borrow.Author.Rules.{rules}
 use Rattle.geometry.proofs.stripes.stripe_of.Goals as goal
 
 pub overflow_add-result : goal.overflow_add-result

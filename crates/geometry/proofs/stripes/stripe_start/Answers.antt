@@ -2,7 +2,6 @@
 use mathlib.Core.Path.{refl}
 use Rattle.geometry.proofs.Laws.{start_none}
 use Rattle.standard.specs.Stripes.{stripe_start}
-use borrow.Author.Rules.{rules}
 use Rattle.geometry.proofs.stripes.stripe_start.Goals as goal
 
 pub returns-then-s-eq0 : goal.returns-then-s-eq0

@@ -5,7 +5,6 @@ use lib.IntN.{pos}
 use mir.Syntax.{w32}
 use Rattle.laws.specs.SignedCode.{Expression, Nat, Lit, ShrBy, ◌⊝◌, lhs, safe, is_exact}
 use Rattle.standard.specs.Stripes.{stripe_start_y_of}
-use borrow.Author.Rules.{rules}
 use Rattle.geometry.proofs.stripes.stripe_start_y.Goals as goal
 
 abbrev start : goal.Start → Expression

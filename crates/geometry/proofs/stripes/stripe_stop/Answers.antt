@@ -1,7 +1,6 @@
 -- The code is the definition.
 use mathlib.Core.Path.{refl}
 use Rattle.standard.specs.Stripes.{stripe_stop}
-use borrow.Author.Rules.{rules}
 use Rattle.geometry.proofs.stripes.stripe_stop.Goals as goal
 
 pub returns : goal.returns

@@ -4,7 +4,6 @@ use mathlib.Core.Path.{ap}
 use Prim.Native.Nat.{◌+◌}
 use Rattle.geometry.proofs.Laws.{stripes_small}
 use Rattle.standard.specs.Stripes.{stripes}
-use borrow.Author.Rules.{rules}
 use Rattle.geometry.proofs.stripes.stripes.Goals as goal
 
 pub overflow_add-result : goal.overflow_add-result

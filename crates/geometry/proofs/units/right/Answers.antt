@@ -3,7 +3,6 @@ use native.Mathlib.Omega.{arith}
 use Prim.Native.Nat.{◌+◌, ◌≤◌}
 use native.Mathlib.Nat.{mul-le-mul}
 use Rattle.geometry.proofs.Laws.{right_last, right_next}
-use borrow.Author.Rules.{rules}
 use Rattle.geometry.proofs.units.right.Goals as goal
 
 pub overflow_mul-next : goal.overflow_mul-next

@@ -4,7 +4,6 @@ use mathlib.Core.Path.{◌∙◌, ap}
 use Prim.Native.Nat.{◌-◌, ◌/◌, min}
 use Rattle.geometry.proofs.Laws.{units_some}
 use Rattle.standard.specs.Stripes.{unit_col_of}
-use borrow.Author.Rules.{rules}
 use Rattle.geometry.proofs.units.unit_col.Goals as goal
 
 pub overflow_sub-last : goal.overflow_sub-last

@@ -1,6 +1,5 @@
 -- The unit of luma row 64 s.
 use Rattle.standard.specs.Stripes.{unit_row_of, unit_col_of}
-use borrow.Author.Rules.{rules}
 use Rattle.geometry.proofs.units.unit_row.Goals as goal
 
 pub returns : goal.returns

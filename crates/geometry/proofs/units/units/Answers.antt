@@ -1,7 +1,6 @@
 -- The larger of 1 and the rounded quotient, by its test.
 use native.Mathlib.Omega.{arith}
 use Rattle.standard.specs.Stripes.{units}
-use borrow.Author.Rules.{rules}
 use Rattle.geometry.proofs.units.units.Goals as goal
 
 pub returns-then-whole-eq0 : goal.returns-then-whole-eq0

@@ -3,7 +3,6 @@ use native.Mathlib.Omega.{arith}
 use Prim.Native.Nat.{◌+◌, ◌*◌}
 use mathlib.Core.Path.{refl}
 use Rattle.standard.specs.Refusals.{wide}
-use borrow.Author.Rules.{rules}
 use Rattle.job.proofs.entries.entry.Goals as goal
 
 pub overflow_cast-low : goal.overflow_cast-low

@@ -8,7 +8,6 @@ use mir.Syntax.{w32}
 use mir.Val.{SFits, to_z}
 use mir.Facts.{to_z-of_z, to_z_pos}
 use Rattle.standard.specs.Job.{signed16}
-use borrow.Author.Rules.{rules}
 use Rattle.job.proofs.entries.signed.Goals as goal
 
 plain : (e : ℕ) → e < 65536 → to_z w32 e ≡ pos e

@@ -1,11 +1,7 @@
 -- Entry by entry: the entries so far are stored.
-use Prim.Native.Nat.{ℕ, ◌+◌, ◌-◌, ◌≤◌}
-use mathlib.Core.Path.{◌≡◌, ◌∙◌, ap}
-use native.Mathlib.Omega.{arith}
-use lib.ListN.{length}
-use mir.Syntax.{w32}
-use Rattle.laws.specs.ReadBack.{returned}
-use Rattle.laws.specs.Runs.{stamp, stamp_none, stamp_more, stamp_length}
+use Prim.Native.Nat.{◌+◌, ◌-◌, ◌≤◌}
+use mathlib.Core.Path.{◌≡◌}
+use Rattle.laws.specs.Runs.{stamp}
 use Rattle.standard.specs.Refusals.{wide}
 use Rattle.standard.specs.Job.{signed16}
 use Rattle.job.proofs.entries.signed_section.Given as goal

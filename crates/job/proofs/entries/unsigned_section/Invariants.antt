@@ -1,12 +1,8 @@
 -- Entry by entry: the entries so far are stored.
-use Prim.Native.Nat.{ℕ, ◌+◌, ◌-◌, ◌≤◌}
-use mathlib.Core.Path.{◌≡◌, ◌∙◌, ap}
-use native.Mathlib.Omega.{arith}
-use lib.ListN.{length}
+use Prim.Native.Nat.{◌+◌, ◌-◌, ◌≤◌}
+use mathlib.Core.Path.{◌≡◌}
 use lib.IntN.{pos}
-use mir.Syntax.{w32}
-use mir.Facts.{to_z_pos}
-use Rattle.laws.specs.Runs.{stamp, stamp_none, stamp_more, stamp_length}
+use Rattle.laws.specs.Runs.{stamp}
 use Rattle.standard.specs.Refusals.{wide}
 use Rattle.job.proofs.entries.unsigned_section.Given as goal
 

@@ -8,7 +8,6 @@ use Rattle.standard.specs.Answers.{job_refusal_number}
 use Rattle.standard.specs.Refusals.{wide}
 use Rattle.standard.specs.Job.{unit_count, deblocked_count, cdef_count, sections_of}
 use Rattle.job.proofs.Laws.{other_frame, other_count, counts_done}
-use borrow.Author.Rules.{rules}
 use Rattle.job.proofs.form.counted.Goals as goal
 
 -- each count is read past the section before it, so it is the definition's where that section's count is

@@ -3,7 +3,6 @@ use mathlib.Core.Path.{sym, ◌∙◌, ap}
 use Rattle.standard.specs.Answers.{of_job_read, job_refusal_number}
 use Rattle.standard.proofs.Answers.{job_refused}
 use Rattle.job.proofs.Laws.{too_long, refused, over_bound, taken}
-use borrow.Author.Rules.{rules}
 use Rattle.job.proofs.form.form.Goals as goal
 
 pub returns-then-bytes-gt4160 : goal.returns-then-bytes-gt4160

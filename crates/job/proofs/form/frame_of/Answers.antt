@@ -1,6 +1,5 @@
 -- Each number is its entry.
 use Rattle.standard.specs.Job.{frame_of}
-use borrow.Author.Rules.{rules}
 use Rattle.job.proofs.form.frame_of.Goals as goal
 
 pub returns : goal.returns

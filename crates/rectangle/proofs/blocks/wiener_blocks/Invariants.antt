@@ -1,15 +1,11 @@
 -- The columns so far are painted, and one more block paints on to the right; the last is as wide as what is left.
-use Prim.Native.Nat.{ℕ, ◌+◌, ◌*◌, ◌-◌, ◌<◌, ◌≤◌}
-use mathlib.Core.Path.{◌≡◌, refl, ◌∙◌, ap}
-use native.Mathlib.Omega.{arith}
-use native.Mathlib.Nat.{mul-le-mul_right}
+use Prim.Native.Nat.{◌+◌, ◌-◌, ◌<◌, ◌≤◌}
+use mathlib.Core.Path.{◌≡◌}
 use lib.ListN.{length}
-use lib.IntN.{ℤ, pos}
+use lib.IntN.{pos}
 use Rattle.laws.specs.Paint.{paint}
-use Rattle.laws.specs.Rows.{rows_length}
 use Rattle.standard.specs.Wiener.{wiener}
 use Rattle.rectangle.specs.View.{view_at}
-use Rattle.rectangle.proofs.BlockLaws.{paint_none, paint_on, block_taps}
 use Rattle.rectangle.proofs.blocks.wiener_blocks.Given as goal
 
 abbrev pub invariant-loop-x : goal.invariant-loop-x

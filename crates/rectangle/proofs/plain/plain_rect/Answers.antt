@@ -5,7 +5,6 @@ use native.Mathlib.Omega.{arith}
 use native.Mathlib.Nat.{mul-le-mul_right}
 use Rattle.laws.specs.Rows.{rows_same}
 use Rattle.rectangle.proofs.PlainLaws.{own_room, plain_value}
-use borrow.Author.Rules.{rules}
 use Rattle.rectangle.proofs.plain.plain_rect.Goals as goal
 
 pub overflow_sub-y0 : goal.overflow_sub-y0

@@ -1,20 +1,11 @@
 -- Row by row: the rows so far hold the middle values, and one more row makes it one more.
-use Prim.Native.Nat.{ℕ, ◌+◌, ◌*◌, ◌-◌, ◌<◌, ◌≤◌}
-use mathlib.Core.Path.{◌≡◌, sym, ◌∙◌, ap, subst}
-use mathlib.Core.List.{List}
-use native.Mathlib.Omega.{arith}
-use lib.ListN.{length}
-use lib.IntN.{ℤ}
-use Rattle.laws.specs.Index.{row_le}
-use Rattle.laws.specs.Bounds.{Samples}
-use Rattle.laws.specs.Rows.{rows, rows_none, rows_more, rows_length}
-use Rattle.standard.specs.Depths.{largest}
+use Prim.Native.Nat.{◌+◌, ◌-◌, ◌≤◌}
+use mathlib.Core.Path.{◌≡◌}
+use Rattle.laws.specs.Rows.{rows}
 use Rattle.standard.specs.Fetch as standard
 use Rattle.standard.specs.Wiener.{across}
 use Rattle.fetch.specs.Source.{source_cell}
-use Rattle.fetch.proofs.Laws.{source_long}
 use Rattle.wiener.specs.Passes.{biased}
-use Rattle.rectangle.proofs.SharpLaws.{handed_value}
 use Rattle.rectangle.proofs.sharp.across_rows.Given as goal
 
 abbrev pub invariant-loop-k : goal.invariant-loop-k

@@ -6,7 +6,6 @@ use Rattle.laws.specs.Bounds.{samples_part}
 use Rattle.laws.specs.Runs.{stamp_same}
 use Rattle.standard.specs.Depths.{largest}
 use Rattle.rectangle.proofs.SharpLaws.{copied_samples, copied_value}
-use borrow.Author.Rules.{rules}
 use Rattle.rectangle.proofs.sharp.clamped_row.Goals as goal
 
 pub across_row-requires : goal.across_row-requires

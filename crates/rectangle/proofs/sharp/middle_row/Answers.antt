@@ -5,7 +5,6 @@ use native.Mathlib.Omega.{arith}
 use Rattle.laws.specs.Bounds.{samples_part}
 use Rattle.laws.specs.Runs.{stamp_same}
 use Rattle.rectangle.proofs.SharpLaws.{direct_value}
-use borrow.Author.Rules.{rules}
 use Rattle.rectangle.proofs.sharp.middle_row.Goals as goal
 
 pub across_row-requires : goal.across_row-requires

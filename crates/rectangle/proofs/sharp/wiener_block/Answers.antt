@@ -11,7 +11,6 @@ use Rattle.standard.specs.Wiener.{Grid}
 use Rattle.wiener.specs.Passes.{Halves}
 use Rattle.wiener.proofs.WindowLaws.{area_halves, window_value}
 use Rattle.rectangle.proofs.SharpLaws.{part, wiener_part}
-use borrow.Author.Rules.{rules}
 use Rattle.rectangle.proofs.sharp.wiener_block.Lts as lts
 use Rattle.rectangle.proofs.sharp.wiener_block.Reads as reads
 use Rattle.rectangle.proofs.sharp.wiener_block.Tie as tie

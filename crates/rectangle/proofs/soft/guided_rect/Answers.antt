@@ -10,7 +10,6 @@ use Rattle.laws.specs.Index.{row_le}
 use Rattle.laws.specs.Rows.{rows_same, rows_length}
 use Rattle.standard.specs.Depths.{largest}
 use Rattle.rectangle.proofs.SoftLaws.{gathered_samples, guided_part, scratch_room}
-use borrow.Author.Rules.{rules}
 use Rattle.rectangle.proofs.soft.guided_rect.Lts as lts
 use Rattle.rectangle.proofs.soft.guided_rect.Reads as reads
 use Rattle.rectangle.proofs.soft.guided_rect.Tie as tie

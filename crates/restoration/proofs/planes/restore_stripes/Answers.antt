@@ -2,25 +2,16 @@
 use mathlib.Core.List.{List}
 use lib.IntN.{ℤ}
 use Rattle.standard.specs.declared.Frame.{Frame}
-use Prim.Native.Nat.{ℕ, ◌*◌, ◌-◌, ◌≤◌, ◌<◌}
+use Prim.Native.Nat.{ℕ, ◌≤◌, ◌<◌}
 use mathlib.Core.Path.{◌≡◌, refl, sym, ◌∙◌, ap, subst}
 use native.Mathlib.Omega.{arith}
-use lib.IntN.{pos}
-use lib.ListN.{length}
 use Rattle.laws.specs.Congruence.{ap2}
-use Rattle.laws.specs.Cover.{Painted}
 use Rattle.standard.specs.Stripes as defined
-use Rattle.standard.specs.Depths.{depth_of}
-use Rattle.standard.specs.Refusals.{sub_y_of, plane_height, plane_width}
-use Rattle.standard.specs.Fetch.{restored_at}
-use Rattle.standard.specs.Planes.{grid}
-use Rattle.standard.specs.Calls.{shape_of}
-use Rattle.standard.proofs.Rectangles.{index_of}
+use Rattle.standard.specs.Refusals.{sub_y_of, plane_height}
 use Rattle.geometry.proofs.Laws.{stripes_small}
 use Rattle.fetch.specs.Source.{whole_source}
 use Rattle.restoration.specs.Asked.{Asked}
 use Rattle.restoration.proofs.Whole.{stripe_asked, stripe_added, whole_painted, a2_table, none_painted}
-use borrow.Author.Rules.{rules}
 use Rattle.restoration.proofs.planes.restore_stripes.Goals as goal
 
 -- what the callees answered: the count of stripes, which is small

@@ -1,7 +1,6 @@
 -- Rows above a stripe begin two rows up, which for the first stripe is its own start.
 use native.Mathlib.Omega.{arith}
 use Rattle.restoration.proofs.Whole.{source_is}
-use borrow.Author.Rules.{rules}
 use Rattle.restoration.proofs.planes.whole_source.Goals as goal
 
 pub returns-then-start-lt2 : goal.returns-then-start-lt2

@@ -1,9 +1,8 @@
 -- Rectangle after rectangle: those so far are painted, and one more makes it one more.
-use Prim.Native.Nat.{ℕ, ◌+◌, ◌*◌, ◌-◌, ◌≤◌}
+use Prim.Native.Nat.{ℕ, ◌+◌, ◌*◌, ◌≤◌}
 use mathlib.Core.Path.{◌≡◌, refl, sym, ◌∙◌, ap, subst}
 use native.Mathlib.Omega.{arith}
 use lib.IntN.{pos}
-use lib.ListN.{length}
 use Rattle.laws.specs.Cover.{Painted, painted_none, painted_more}
 use Rattle.standard.specs.Stripes as defined
 use Rattle.standard.specs.Refusals.{sub_y_of, plane_height, plane_width}

@@ -1,17 +1,12 @@
 -- Rectangle after rectangle: those so far are painted, and one more makes it one more.
-use Prim.Native.Nat.{ℕ, ◌+◌, ◌*◌, ◌-◌, ◌≤◌}
-use mathlib.Core.Path.{◌≡◌, refl, sym, ◌∙◌, ap, subst}
-use native.Mathlib.Omega.{arith}
+use Prim.Native.Nat.{◌+◌, ◌*◌, ◌-◌, ◌≤◌}
+use mathlib.Core.Path.{◌≡◌}
 use lib.IntN.{pos}
 use lib.ListN.{length}
-use Rattle.laws.specs.Cover.{Painted, painted_none, painted_more}
-use Rattle.standard.specs.Stripes as defined
+use Rattle.laws.specs.Cover.{Painted}
 use Rattle.standard.specs.Refusals.{sub_y_of, plane_height, plane_width}
-use Rattle.standard.proofs.Stripes.{size_of}
-use Rattle.standard.proofs.Rectangles.{index_of, cover}
-use Rattle.restoration.specs.Asked.{Asked, Stripe, unit_shown}
-use Rattle.restoration.proofs.Sizes.{size_small}
-use Rattle.restoration.proofs.Units.{sized, in_stripe, below_all, end_small}
+use Rattle.standard.proofs.Rectangles.{index_of}
+use Rattle.restoration.specs.Asked.{unit_shown}
 use Rattle.restoration.proofs.rectangles.restore_rectangles.Given as goal
 
 abbrev pub invariant-loop-k : goal.invariant-loop-k

@@ -1,12 +1,8 @@
 -- Sample by sample: the samples so far are stored.
-use Prim.Native.Nat.{ℕ, ◌-◌, ◌≤◌}
-use mathlib.Core.Path.{◌≡◌, ◌∙◌, ap}
-use native.Mathlib.Omega.{arith}
-use lib.ListN.{length}
+use Prim.Native.Nat.{◌-◌, ◌≤◌}
+use mathlib.Core.Path.{◌≡◌}
 use lib.IntN.{pos}
-use mir.Syntax.{w32}
-use Rattle.laws.specs.ReadBack.{returned}
-use Rattle.laws.specs.Runs.{stamp, stamp_none, stamp_more, stamp_length}
+use Rattle.laws.specs.Runs.{stamp}
 use Rattle.standard.specs.Refusals.{wide}
 use Rattle.sample.proofs.bytes.unpack.Given as goal
 

@@ -4,7 +4,6 @@ use Prim.Native.Nat.{◌+◌, ◌*◌}
 use mir.Syntax.{w32}
 use mir.Facts.{to_z_pos}
 use Rattle.standard.specs.Refusals.{wide}
-use borrow.Author.Rules.{rules}
 use Rattle.sample.proofs.bytes.wide.Goals as goal
 
 pub overflow_cast-low : goal.overflow_cast-low

@@ -5,7 +5,6 @@ use lib.IntN.{pos}
 use mir.Syntax.{w32}
 use Rattle.laws.specs.ReadBack.{returned}
 use Rattle.sample.proofs.Laws.{only, one_row, guided_seen, table_holds}
-use borrow.Author.Rules.{rules}
 use Rattle.sample.proofs.filters.guided_sample.Goals as goal
 
 pub selfguided_window-requires : goal.selfguided_window-requires

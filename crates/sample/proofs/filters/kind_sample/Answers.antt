@@ -9,7 +9,6 @@ use Rattle.standard.specs.declared.Kind.{Kind}
 use Rattle.standard.specs.Fetch.{restored}
 use Rattle.units.specs.Legal.{LegalKind}
 use Rattle.sample.specs.Seen.{seen_at}
-use borrow.Author.Rules.{rules}
 use Rattle.sample.proofs.filters.kind_sample.Goals as goal
 
 pub wiener_sample-requires : goal.wiener_sample-requires

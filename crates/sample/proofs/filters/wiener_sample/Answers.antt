@@ -4,7 +4,6 @@ use lib.IntN.{pos}
 use mir.Syntax.{w32}
 use Rattle.laws.specs.ReadBack.{returned}
 use Rattle.sample.proofs.Laws.{only, wiener_seen}
-use borrow.Author.Rules.{rules}
 use Rattle.sample.proofs.filters.wiener_sample.Goals as goal
 
 pub returns : goal.returns

@@ -2,7 +2,6 @@
 use mathlib.Core.Path.{refl}
 use native.Mathlib.Omega.{arith}
 use Rattle.sample.proofs.Numbers.{outside_is}
-use borrow.Author.Rules.{rules}
 use Rattle.sample.proofs.tests.outside.Goals as goal
 
 pub returns : goal.returns

@@ -3,7 +3,6 @@ use mathlib.Core.Path.{sym, ◌∙◌, ap}
 use mathlib.Core.Bool.{not}
 use Rattle.standard.specs.Answers.{refusal_number}
 use Rattle.sample.proofs.Numbers.{gives_1, gives_7, gives_11, gives_15, gives_0}
-use borrow.Author.Rules.{rules}
 use Rattle.std.proofs.lemmas.Bool.{not_from_false, not_from_true}
 use Rattle.sample.proofs.tests.sample_tests.Goals as goal
 

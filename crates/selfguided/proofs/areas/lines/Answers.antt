@@ -2,7 +2,6 @@
 use Prim.Native.Nat.{◌*◌, ◌≤◌}
 use native.Mathlib.Omega.{arith}
 use Rattle.laws.specs.Index.{mul_small}
-use borrow.Author.Rules.{rules}
 use Rattle.selfguided.proofs.areas.lines.Goals as goal
 
 product : (c : goal.Start) → c.args.h * c.args.w ≤ 24512

@@ -6,7 +6,6 @@ use native.Mathlib.Nat.{mul-le-mul}
 use Rattle.laws.specs.Congruence.{ap2}
 use Rattle.standard.specs.Arithmetic.{round_ℕ}
 use Rattle.selfguided.proofs.WeighLaws.{read_small}
-use borrow.Author.Rules.{rules}
 use Rattle.selfguided.proofs.filtered.f0_even_at.Goals as goal
 
 first : (c : goal.After-word-2) → c.word.result + c.word-2.result ≤ 8192

@@ -1,10 +1,8 @@
 -- The rows so far are those of i results; one more call makes one more row.
-use Prim.Native.Nat.{ℕ, ◌+◌, ◌-◌, ◌≤◌}
-use mathlib.Core.Path.{◌≡◌, refl, ◌∙◌, ap}
-use native.Mathlib.Omega.{arith}
-use lib.ListN.{length}
+use Prim.Native.Nat.{◌+◌, ◌-◌, ◌≤◌}
+use mathlib.Core.Path.{◌≡◌}
 use lib.IntN.{pos}
-use Rattle.laws.specs.Rows.{rows, rows_none, rows_more, rows_length}
+use Rattle.laws.specs.Rows.{rows}
 use Rattle.standard.specs.SelfGuided.{self_guided}
 use Rattle.selfguided.proofs.GuidedLaws.{window_at}
 use Rattle.selfguided.proofs.last.last.Given as goal

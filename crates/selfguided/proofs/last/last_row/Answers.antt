@@ -13,7 +13,6 @@ use Rattle.selfguided.specs.Finals.{Source}
 use Rattle.selfguided.proofs.ParamLaws.{not_both}
 use Rattle.selfguided.proofs.GuidedLaws.{window_at, cross_is, even_is, odd_is, absent, guided}
 use Rattle.selfguided.proofs.ReadyLaws.{source, sixes_even, sixes_odd, crosses}
-use borrow.Author.Rules.{rules}
 use Rattle.selfguided.proofs.last.last_row.Lts as lts
 use Rattle.selfguided.proofs.last.last_row.Reads as reads
 use Rattle.selfguided.proofs.last.last_row.Tie as tie

@@ -1,6 +1,5 @@
 -- The table, read at the set, is Sgr_Params.
 use Rattle.selfguided.proofs.ParamLaws.{flat_r0, flat_eps0, flat_r1, flat_eps1}
-use borrow.Author.Rules.{rules}
 use Rattle.selfguided.proofs.parameters.params_of.Goals as goal
 
 pub returns : goal.returns

@@ -1,7 +1,6 @@
 -- Each step reads what the steps before it left: `SixPipe` says what that is.
 use native.Mathlib.Omega.{arith}
 use Rattle.selfguided.proofs.SixPipe.{setting, second_reads, long2, third_reads, sixed}
-use borrow.Author.Rules.{rules}
 use Rattle.selfguided.proofs.passes.six_box_row.Goals as goal
 
 pub box_row5-requires : goal.box_row5-requires

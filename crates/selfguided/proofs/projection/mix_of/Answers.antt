@@ -5,7 +5,6 @@ use mir.Syntax.{w32}
 use Rattle.laws.specs.Congruence.{ap2}
 use Rattle.laws.specs.SignedCode.{Expression, ranged, Lit, ◌⊝◌, lhs, safe, is_exact, bounded}
 use Rattle.laws.specs.ReadBack.{returned, abs_at}
-use borrow.Author.Rules.{rules}
 use Rattle.selfguided.proofs.projection.mix_of.Lts as lts
 use Rattle.selfguided.proofs.projection.mix_of.Reads as reads
 use Rattle.selfguided.proofs.projection.mix_of.Tie as tie

@@ -1,16 +1,11 @@
 -- The run so far is the stamp of j results.
-use Prim.Native.Nat.{ℕ, ◌+◌, ◌*◌, ◌-◌, ◌≤◌}
-use mathlib.Core.Path.{◌≡◌, ◌∙◌, ap}
-use native.Mathlib.Omega.{arith}
-use lib.ListN.{length}
+use Prim.Native.Nat.{◌+◌, ◌*◌, ◌-◌, ◌≤◌}
+use mathlib.Core.Path.{◌≡◌}
 use lib.IntN.{pos}
-use mir.Syntax.{w32}
-use Rattle.laws.specs.ReadBack.{returned}
-use Rattle.laws.specs.Runs.{stamp, stamp_none, stamp_more, stamp_length}
+use Rattle.laws.specs.Runs.{stamp}
 use Rattle.standard.specs.SelfGuided.{project}
 use Rattle.boxes.specs.Reads.{sample_at}
 use Rattle.selfguided.specs.Finals.{cross_f}
-use Rattle.selfguided.proofs.FinalLaws.{source_part, crosses_part}
 use Rattle.selfguided.proofs.results.only1_row.Given as goal
 
 abbrev pub invariant-loop-j : goal.invariant-loop-j

@@ -6,7 +6,6 @@ use mir.Syntax.{w64}
 use Rattle.laws.specs.UnsignedCode.{Amount, UpTo, Const, ◌⊞ᵤ◌, ◌⊠ᵤ◌, amount_fits}
 use Rattle.selfguided.specs.Areas.{used}
 use Rattle.selfguided.proofs.WindowLaws.{places_small}
-use borrow.Author.Rules.{rules}
 use Rattle.selfguided.proofs.spots.spots_of.Goals as goal
 
 module _ (c : goal.Start) where

@@ -7,7 +7,6 @@ use Rattle.laws.specs.Bounds.{samples_part}
 use Rattle.boxes.proofs.Words.{samples_widen}
 use Rattle.boxes.proofs.SumLaws.{sums_small, sum3_is}
 use Rattle.selfguided.proofs.WeighLaws.{cross_is}
-use borrow.Author.Rules.{rules}
 use Rattle.selfguided.proofs.weighted.cross_at.Goals as goal
 
 sum1 : (c : goal.After-sum3_at) → c.sum3_at.result ≤ 3135735

@@ -3,7 +3,6 @@ use Prim.Native.Nat.{◌+◌}
 use native.Mathlib.Omega.{arith}
 use Rattle.laws.specs.Congruence.{ap2}
 use Rattle.selfguided.proofs.WeighLaws.{read_small}
-use borrow.Author.Rules.{rules}
 use Rattle.selfguided.proofs.weighted.ends_at.Goals as goal
 
 pub word-requires : goal.word-requires

@@ -7,7 +7,6 @@ use mir.Syntax.{w32}
 use Rattle.laws.specs.Congruence.{ap3}
 use Rattle.laws.specs.ReadBack.{returned}
 use Rattle.selfguided.proofs.WeighLaws.{read_small, six_is}
-use borrow.Author.Rules.{rules}
 use Rattle.selfguided.proofs.weighted.six_at.Goals as goal
 
 small1 : (c : goal.After-word) → c.word.result ≤ 1045245

@@ -11,7 +11,6 @@ use Rattle.standard.specs.Refusals.{no9, plane_height, sub_y_of}
 use Rattle.frames.proofs.Legal.{LegalFrame, halved}
 use Rattle.edges.proofs.Laws.{some_stripe, few_stripes}
 use Rattle.stripe_tests.proofs.Laws.{legal}
-use borrow.Author.Rules.{rules}
 use Rattle.stripe_tests.proofs.conditions.bad_edges.Goals as goal
 
 plain : (s : goal.Start) → LegalFrame s.args.f

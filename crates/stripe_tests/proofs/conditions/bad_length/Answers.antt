@@ -9,7 +9,6 @@ use Rattle.laws.specs.Congruence.{ap2}
 use Rattle.standard.specs.Refusals.{samples}
 use Rattle.frames.proofs.Legal.{LegalFrame}
 use Rattle.stripe_tests.proofs.Laws.{legal}
-use borrow.Author.Rules.{rules}
 use Rattle.stripe_tests.proofs.conditions.bad_length.Goals as goal
 
 plain : (s : goal.Start) → LegalFrame s.args.f

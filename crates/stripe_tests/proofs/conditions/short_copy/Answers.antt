@@ -8,7 +8,6 @@ use Rattle.laws.specs.Congruence.{ap2}
 use Rattle.standard.specs.Refusals.{copy_need}
 use Rattle.frames.proofs.Legal.{LegalFrame}
 use Rattle.stripe_tests.proofs.Laws.{legal}
-use borrow.Author.Rules.{rules}
 use Rattle.stripe_tests.proofs.conditions.short_copy.Goals as goal
 
 plain : (s : goal.Start) → LegalFrame s.args.f

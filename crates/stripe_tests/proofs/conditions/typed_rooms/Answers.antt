@@ -4,7 +4,6 @@ use mathlib.Core.Bool.{Bool, ◌||◌}
 use lib.Dec.{ltb}
 use Rattle.stripe_tests.proofs.Laws.{untyped, as_typed, or_left, or_right}
 use Rattle.standard.specs.Refusals.{copy_need, plane_height, plane_width, scratch_need, sub_y_of}
-use borrow.Author.Rules.{rules}
 use Rattle.stripe_tests.proofs.conditions.typed_rooms.Lts as lts
 use Rattle.stripe_tests.proofs.conditions.typed_rooms.Reads as reads
 use Rattle.stripe_tests.proofs.conditions.typed_rooms.Tie as tie

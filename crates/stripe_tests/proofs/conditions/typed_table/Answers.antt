@@ -2,7 +2,6 @@
 use mathlib.Core.Path.{◌∙◌}
 use Rattle.stripe_tests.proofs.Laws.{untyped, as_typed}
 use Rattle.standard.specs.Refusals.{no11}
-use borrow.Author.Rules.{rules}
 use Rattle.stripe_tests.proofs.conditions.typed_table.Goals as goal
 
 pub returns-then-f-eq0 : goal.returns-then-f-eq0

@@ -8,7 +8,6 @@ use lib.ListN.{length}
 use Rattle.laws.specs.Lists.{all}
 use Rattle.standard.specs.Refusals.{no12}
 use Rattle.units.specs.First.{fails_list}
-use borrow.Author.Rules.{rules}
 use Rattle.stripe_tests.proofs.marks.bad_marks.Goals as goal
 
 pub returns-then-marks-n : goal.returns-then-marks-n

@@ -1,11 +1,7 @@
 -- The marks before k are 0 or 1; the first that is neither is the answer.
-use Prim.Native.Nat.{◌-◌, ◌≤◌}
 use mathlib.Core.Path.{sym}
 use native.Mathlib.Omega.{arith}
 use borrow.Author.Tests.{le-leb, lt-leb}
-use lib.Dec.{T, leb}
-use lib.ListN.{get_or}
-use Rattle.laws.specs.Lists.{all_below}
 use Rattle.units.specs.First.{first_at}
 use Rattle.units.proofs.Search.{none_yet, one_more, all_passed}
 use Rattle.stripe_tests.proofs.marks.first_odd.Goals as goal

@@ -13,7 +13,6 @@ use Rattle.standard.specs.Refusals.{no15, plane_height, plane_width, sub_y_of}
 use Rattle.standard.specs.Calls.{own_rows}
 use Rattle.frames.proofs.Legal.{LegalFrame}
 use Rattle.stripe_tests.proofs.Laws.{edge_room, legal, or_first, or_second, or_third, told}
-use borrow.Author.Rules.{rules}
 use Rattle.stripe_tests.proofs.rows.bad_rows.Lts as lts
 use Rattle.stripe_tests.proofs.rows.bad_rows.Reads as reads
 use Rattle.stripe_tests.proofs.rows.bad_rows.Tie as tie

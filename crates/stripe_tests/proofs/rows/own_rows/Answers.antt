@@ -8,7 +8,6 @@ use Rattle.standard.specs.Stripes as defined
 use Rattle.standard.specs.Refusals.{plane_height, plane_width, sub_y_of}
 use Rattle.frames.proofs.Legal.{LegalFrame}
 use Rattle.stripe_tests.proofs.Laws.{Rows, legal, own_part, rows_held, rows_of}
-use borrow.Author.Rules.{rules}
 use Rattle.stripe_tests.proofs.rows.own_rows.Goals as goal
 
 plain : (s : goal.Start) → LegalFrame s.args.f

@@ -4,7 +4,6 @@ use Prim.Native.Nat.{ℕ}
 use lib.Dec.{ltb}
 use lib.ListN.{length}
 use Rattle.units.specs.First.{no15_first}
-use borrow.Author.Rules.{rules}
 use Rattle.stripe_tests.proofs.rows.some_outside.Goals as goal
 
 pub returns : goal.returns

@@ -4,7 +4,6 @@ use mathlib.Core.Path.{refl}
 use native.Mathlib.Omega.{arith}
 use Rattle.laws.specs.Index.{mul_small}
 use Rattle.superres.proofs.Rows.{place_up, ready}
-use borrow.Author.Rules.{rules}
 use Rattle.superres.proofs.block.block.Lts as lts
 use Rattle.superres.proofs.block.block.Reads as reads
 use Rattle.superres.proofs.block.block.Tie as tie

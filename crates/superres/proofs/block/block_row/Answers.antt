@@ -5,7 +5,6 @@ use lib.ListN.{length}
 use Rattle.laws.specs.Bounds.{Sized, sized_part, sized_widen}
 use Rattle.laws.specs.Index.{row_le}
 use Rattle.superres.proofs.Rows.{need_small, reaches, sums_small, row_is, taps_sized}
-use borrow.Author.Rules.{rules}
 use Rattle.superres.proofs.block.block_row.Lts as lts
 use Rattle.superres.proofs.block.block_row.Reads as reads
 use Rattle.superres.proofs.block.block_row.Tie as tie

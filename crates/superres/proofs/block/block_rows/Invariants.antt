@@ -1,11 +1,10 @@
 -- The rows so far are painted; one more row makes y + 1.
-use Prim.Native.Nat.{ℕ, ◌+◌, ◌*◌, ◌-◌, ◌≤◌}
-use mathlib.Core.Path.{◌≡◌, sym, ◌∙◌, ap, subst}
-use native.Mathlib.Omega.{arith}
+use Prim.Native.Nat.{◌+◌, ◌*◌, ◌-◌, ◌≤◌}
+use mathlib.Core.Path.{◌≡◌}
 use lib.ListN.{length, get_or}
 use lib.IntN.{pos}
-use Rattle.laws.specs.Rows.{rows, rows_none, rows_more, rows_length}
-use Rattle.superres.specs.Scaled.{scaled, Fit}
+use Rattle.laws.specs.Rows.{rows}
+use Rattle.superres.specs.Scaled.{scaled}
 use Rattle.superres.proofs.block.block_rows.Given as goal
 
 abbrev pub invariant-loop-y : goal.invariant-loop-y

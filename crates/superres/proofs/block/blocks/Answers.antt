@@ -1,10 +1,10 @@
 -- The blocks before k are done, the other columns are as they were.
-use Prim.Native.Nat.{ℕ, ◌+◌, ◌*◌, ◌-◌, ◌/◌, ◌≤◌}
+use Prim.Native.Nat.{ℕ, ◌+◌, ◌*◌, ◌/◌}
 use mathlib.Core.Path.{refl, sym, ◌∙◌, ap, subst}
 use native.Mathlib.Omega.{arith}
 use lib.ListN.{get_or}
 use lib.IntN.{pos}
-use Rattle.laws.specs.Cover.{Painted, painted_none, painted_more, painted_all}
+use Rattle.laws.specs.Cover.{painted_none, painted_more, painted_all}
 use Rattle.laws.specs.Paint.{paint}
 use Rattle.superres.specs.Scaled.{scaled, Fit}
 use Rattle.superres.proofs.Blocks.{blocks_cover}

@@ -1,13 +1,9 @@
 -- The blocks before k are done, the other columns are as they were.
-use Prim.Native.Nat.{ℕ, ◌+◌, ◌*◌, ◌-◌, ◌/◌, ◌≤◌}
-use mathlib.Core.Path.{refl, sym, ◌∙◌, ap, subst}
-use native.Mathlib.Omega.{arith}
+use Prim.Native.Nat.{◌+◌, ◌*◌, ◌-◌, ◌/◌, ◌≤◌}
 use lib.ListN.{get_or}
 use lib.IntN.{pos}
-use Rattle.laws.specs.Cover.{Painted, painted_none, painted_more, painted_all}
-use Rattle.laws.specs.Paint.{paint}
-use Rattle.superres.specs.Scaled.{scaled, Fit}
-use Rattle.superres.proofs.Blocks.{blocks_cover}
+use Rattle.laws.specs.Cover.{Painted}
+use Rattle.superres.specs.Scaled.{scaled}
 use Rattle.superres.proofs.block.blocks.Given as goal
 
 abbrev pub invariant-loop-k : goal.invariant-loop-k

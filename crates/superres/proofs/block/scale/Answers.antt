@@ -1,7 +1,6 @@
 -- The taps are laid once, then lent to every block.
 use native.Mathlib.Omega.{arith}
 use Rattle.superres.proofs.Rows.{laid}
-use borrow.Author.Rules.{rules}
 use Rattle.superres.proofs.block.scale.Goals as goal
 
 pub blocks-requires : goal.blocks-requires

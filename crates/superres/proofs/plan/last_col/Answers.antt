@@ -1,6 +1,5 @@
 -- The column by the two subsamplings.
 use Rattle.superres.proofs.Laws.{last_full, last_half}
-use borrow.Author.Rules.{rules}
 use Rattle.superres.proofs.plan.last_col.Goals as goal
 
 pub returns-then-sub_x-eq0 : goal.returns-then-sub_x-eq0

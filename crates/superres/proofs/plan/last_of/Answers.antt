@@ -4,7 +4,6 @@ use mathlib.Core.Path.{◌∙◌, ap}
 use native.Mathlib.Omega.{arith}
 use Rattle.standard.specs.Superres.{last_col}
 use Rattle.frames.proofs.Conditions.{sub_small}
-use borrow.Author.Rules.{rules}
 use Rattle.superres.proofs.plan.last_of.Goals as goal
 
 pub last_col-frame-requires : goal.last_col-frame-requires

@@ -4,7 +4,6 @@ use native.Mathlib.Omega.{arith}
 use Rattle.laws.specs.Congruence.{ap2}
 use Rattle.standard.specs.Superres.{start, step}
 use Rattle.superres.proofs.Clean.{extent_small}
-use borrow.Author.Rules.{rules}
 use Rattle.superres.proofs.plan.plan_of.Goals as goal
 
 pub step_of-step-requires : goal.step_of-step-requires

@@ -8,7 +8,6 @@ use Rattle.laws.specs.Integers.{le_out}
 use Rattle.laws.specs.ReadBack.{returned, cast_unsigned_at}
 use Rattle.standard.specs.Depths.{largest}
 use Rattle.superres.proofs.Clean.{depth_bright}
-use borrow.Author.Rules.{rules}
 use Rattle.superres.proofs.plan.top_of.Goals as goal
 
 pub overflow_cast-result : goal.overflow_cast-result

@@ -5,9 +5,8 @@ use native.Mathlib.Omega.{arith}
 use lib.IntN.{pos, ◌-ℤ◌}
 use mir.Syntax.{w32}
 use Rattle.laws.specs.SignedCode.{Expression, Nat, ◌⊝◌, lhs, safe, is_exact}
-use Rattle.standard.specs.Superres.{step, err}
+use Rattle.standard.specs.Superres.{err}
 use Rattle.superres.proofs.Laws.{step_high}
-use borrow.Author.Rules.{rules}
 use Rattle.superres.proofs.positions.err_of.Goals as goal
 
 small : (c : goal.Start) → c.args.u * c.args.step ≤ 268443648

@@ -1,10 +1,7 @@
 -- The running sum is the position of column x0 + x; each turn stores its place and its tap row.
-use Prim.Native.Nat.{ℕ, ◌+◌, ◌*◌, ◌-◌, ◌/◌, ◌%◌, ◌≤◌}
-use mathlib.Core.Path.{◌≡◌, ◌∙◌, ap}
-use native.Mathlib.Omega.{arith}
-use lib.ListN.{length}
-use Rattle.laws.specs.Index.{mul_small}
-use Rattle.laws.specs.Runs.{stamp, stamp_none, stamp_more, stamp_length}
+use Prim.Native.Nat.{◌+◌, ◌*◌, ◌-◌, ◌≤◌}
+use mathlib.Core.Path.{◌≡◌}
+use Rattle.laws.specs.Runs.{stamp}
 use Rattle.superres.specs.Scaled.{place_at, phase_at}
 use Rattle.superres.proofs.positions.places.Given as goal
 

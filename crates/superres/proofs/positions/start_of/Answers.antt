@@ -14,7 +14,6 @@ use Rattle.laws.specs.SignedCode.{Expression, Nat, Held, Lit, ◌⊝◌, lhs, rh
 use Rattle.standard.specs.Arithmetic.{wrap}
 use Rattle.standard.specs.Superres.{err, start}
 use Rattle.superres.proofs.Laws.{quot_back, quot_small, err_size, wrap_up}
-use borrow.Author.Rules.{rules}
 use Rattle.superres.proofs.positions.start_of.Goals as goal
 
 module _ (c : goal.After-halved-half) where

@@ -1,7 +1,6 @@
 -- The step, as it is defined.
 use mathlib.Core.Path.{refl}
 use Rattle.standard.specs.Superres.{step}
-use borrow.Author.Rules.{rules}
 use Rattle.superres.proofs.positions.step_of.Goals as goal
 
 pub returns : goal.returns

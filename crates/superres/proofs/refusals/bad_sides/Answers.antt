@@ -1,7 +1,6 @@
 -- The first side that is bad answers.
 use mathlib.Core.Path.{sym, ◌∙◌}
 use Rattle.superres.proofs.Conditions.{or_first, or_second, or_third}
-use borrow.Author.Rules.{rules}
 use Rattle.superres.proofs.refusals.bad_sides.Goals as goal
 
 pub returns-then-bad_side : goal.returns-then-bad_side

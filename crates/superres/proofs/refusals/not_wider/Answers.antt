@@ -2,7 +2,6 @@
 use mathlib.Core.Path.{sym, ◌∙◌}
 use Rattle.standard.specs.Refusals.{copies, up_width, down_width}
 use Rattle.superres.proofs.Conditions.{no_growth, growth}
-use borrow.Author.Rules.{rules}
 use Rattle.superres.proofs.refusals.not_wider.Goals as goal
 
 pub returns-then-is_copy : goal.returns-then-is_copy

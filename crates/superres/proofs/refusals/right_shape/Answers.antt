@@ -6,7 +6,6 @@ use mathlib.Core.Bool.{cond}
 use Rattle.laws.specs.Index.{mul_small}
 use Rattle.standard.specs.Refusals.{copies, same_shape, scaling_shape}
 use Rattle.superres.proofs.Conditions.{length_first, length_second, shape_left, shape_right}
-use borrow.Author.Rules.{rules}
 use Rattle.superres.proofs.refusals.right_shape.Goals as goal
 
 pub overflow_mul-s : goal.overflow_mul-s

@@ -3,7 +3,6 @@ use mathlib.Core.Path.{sym, ap, ◌∙◌}
 use lib.Dec.{eqb}
 use native.Mathlib.Omega.{arith}
 use Rattle.superres.proofs.Conditions.{few_rows, many_rows, few_cols, many_cols, other_width, right_width}
-use borrow.Author.Rules.{rules}
 use Rattle.superres.proofs.refusals.scaling_shape.Goals as goal
 
 pub returns-then-s-rows : goal.returns-then-s-rows

@@ -4,7 +4,6 @@ use Rattle.standard.proofs.Refusals.{first_here, first_past}
 use Rattle.standard.specs.Refusals.{upscale_tests}
 use Rattle.standard.specs.Answers.{refusal_number}
 use Rattle.superres.proofs.Conditions.{sided}
-use borrow.Author.Rules.{rules}
 use Rattle.superres.proofs.refusals.tested.Goals as goal
 
 pub returns-then-bad_depth : goal.returns-then-bad_depth

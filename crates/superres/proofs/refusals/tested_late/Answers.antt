@@ -6,7 +6,6 @@ use Rattle.std.proofs.lemmas.Bool.{not_from_false, not_from_true}
 use Rattle.standard.proofs.Refusals.{first_here, first_past}
 use Rattle.standard.specs.Answers.{refusal_number}
 use Rattle.superres.proofs.Conditions.{first_none}
-use borrow.Author.Rules.{rules}
 use Rattle.superres.proofs.refusals.tested_late.Goals as goal
 
 pub returns-then-wrong : goal.returns-then-wrong

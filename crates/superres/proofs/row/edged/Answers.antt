@@ -2,7 +2,6 @@
 use native.Mathlib.Omega.{arith}
 use Rattle.laws.specs.Bounds.{sized_part}
 use Rattle.superres.proofs.Edges.{joined}
-use borrow.Author.Rules.{rules}
 use Rattle.superres.proofs.row.edged.Goals as goal
 
 pub repeat_narrow-requires : goal.repeat_narrow-requires

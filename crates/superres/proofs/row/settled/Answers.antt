@@ -12,7 +12,6 @@ use Rattle.laws.specs.Integers.{le_out}
 use Rattle.laws.specs.ReadBack.{returned, abs_at, of_read}
 use Rattle.laws.specs.SignedCode.{Nat, is_exact}
 use Rattle.standard.specs.Arithmetic.{round2, clip_to}
-use borrow.Author.Rules.{rules}
 use Rattle.superres.proofs.row.settled.Goals as goal
 
 top_read : (s : goal.Start) → to_z w32 s.args.top ≡ pos s.args.top

@@ -1,12 +1,8 @@
 -- The run so far is the stamp of x sums.
-use Prim.Native.Nat.{ℕ, ◌-◌, ◌≤◌}
-use mathlib.Core.Path.{◌≡◌, ◌∙◌, ap}
-use native.Mathlib.Omega.{arith}
-use lib.ListN.{length, get_or}
-use mir.Syntax.{w32}
-use Rattle.laws.specs.Bounds.{sized_part}
-use Rattle.laws.specs.ReadBack.{returned}
-use Rattle.laws.specs.Runs.{stamp, stamp_none, stamp_more, stamp_length}
+use Prim.Native.Nat.{◌-◌, ◌≤◌}
+use mathlib.Core.Path.{◌≡◌}
+use lib.ListN.{get_or}
+use Rattle.laws.specs.Runs.{stamp}
 use Rattle.superres.specs.Scaled.{dot}
 use Rattle.superres.proofs.row.sums.Given as goal
 

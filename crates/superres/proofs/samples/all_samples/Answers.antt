@@ -5,7 +5,6 @@ use mathlib.Core.Bool.{not}
 use lib.Dec.{ltb}
 use lib.ListN.{length}
 use Rattle.units.specs.First.{no15_first}
-use borrow.Author.Rules.{rules}
 use Rattle.superres.proofs.samples.all_samples.Goals as goal
 
 pub returns : goal.returns

@@ -1,6 +1,6 @@
 -- The run so far is the stamp of i taps.
-use Prim.Native.Nat.{ℕ, ◌-◌, ◌/◌, ◌%◌, ◌≤◌}
-use mathlib.Core.Path.{◌≡◌, ◌∙◌, ap}
+use Prim.Native.Nat.{ℕ, ◌/◌, ◌%◌}
+use mathlib.Core.Path.{◌∙◌, ap}
 use mathlib.Core.List.{[]}
 use native.Mathlib.Omega.{arith}
 use lib.ListN.{length, get_or}

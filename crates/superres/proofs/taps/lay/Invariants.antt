@@ -1,13 +1,7 @@
 -- The run so far is the stamp of i taps.
-use Prim.Native.Nat.{ℕ, ◌-◌, ◌/◌, ◌%◌, ◌≤◌}
-use mathlib.Core.Path.{◌≡◌, ◌∙◌, ap}
-use mathlib.Core.List.{[]}
-use native.Mathlib.Omega.{arith}
-use lib.ListN.{length, get_or}
-use lib.IntN.{pos}
-use mir.Syntax.{w16}
-use Rattle.laws.specs.ReadBack.{returned}
-use Rattle.laws.specs.Runs.{stamp, stamp_none, stamp_more, stamp_length}
+use Prim.Native.Nat.{◌-◌, ◌/◌, ◌%◌, ◌≤◌}
+use mathlib.Core.Path.{◌≡◌}
+use Rattle.laws.specs.Runs.{stamp}
 use Rattle.standard.specs.UpscaleFilter.{up_tap}
 use Rattle.superres.proofs.taps.lay.Given as goal
 

@@ -1,15 +1,10 @@
 -- The samples before i are in range; the first that is not is the answer.
 use Prim.Native.Nat.{◌-◌, ◌≤◌}
-use native.Mathlib.Omega.{arith}
-use mathlib.Core.Path.{refl, sym}
 use lib.Dec.{T}
 use lib.IntN.{pos}
 use lib.ListN.{length}
-use mir.Syntax.{w32}
 use Rattle.laws.specs.Lists.{all_below}
-use Rattle.laws.specs.ReadBack.{returned}
-use Rattle.units.specs.First.{in_range, first_at}
-use Rattle.units.proofs.Search.{none_yet, one_more, all_passed, flag_passed, flag_failed, of_sample}
+use Rattle.units.specs.First.{in_range}
 use Rattle.units.proofs.samples.find_outside.Given as goal
 
 abbrev pub invariant-loop-i : goal.invariant-loop-i

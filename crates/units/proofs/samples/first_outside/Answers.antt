@@ -11,7 +11,6 @@ use Rattle.laws.specs.ReadBack.{returned, cast_unsigned_at}
 use Rattle.standard.specs.Depths.{largest}
 use Rattle.units.proofs.Depths.{bits_of, largest_most}
 use Rattle.units.proofs.Search.{outside_none, outside_found}
-use borrow.Author.Rules.{rules}
 use Rattle.units.proofs.samples.first_outside.Goals as goal
 
 top_is : (c : goal.After-largest-top) → pos (nat_abs (to_z w32 (of_z w32 c.largest-top.result))) ≡ pos (2 ^ c.args.depth - 1)

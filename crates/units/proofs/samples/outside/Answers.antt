@@ -14,7 +14,6 @@ use Rattle.laws.specs.ReadBack.{lt_true, lt_false, true_le, false_le}
 use Rattle.standard.specs.Units.{between}
 use Rattle.units.specs.First.{failed}
 use Rattle.units.proofs.Conditions.{below_range, above_low}
-use borrow.Author.Rules.{rules}
 use Rattle.units.proofs.samples.outside.Goals as goal
 
 both : (top : ℕ) (z : ℤ) → bool_byte (lt_z z (pos 0) || lt_z (pos top) z) ≡ failed (between (pos 0) (pos top) z)

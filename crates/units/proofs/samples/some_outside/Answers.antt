@@ -1,9 +1,8 @@
 -- The samples before i are joined in one number, 0 or 1.
-use Prim.Native.Nat.{ℕ, ◌-◌, ◌≤◌}
+use Prim.Native.Nat.{ℕ}
 use native.Mathlib.Omega.{arith}
-use mathlib.Core.Path.{◌≡◌, refl, ap, ◌∙◌}
+use mathlib.Core.Path.{refl, ap, ◌∙◌}
 use lib.IntN.{pos}
-use lib.ListN.{length}
 use mir.Syntax.{w32}
 use Rattle.laws.specs.Lists.{all_below}
 use Rattle.laws.specs.ReadBack.{returned}

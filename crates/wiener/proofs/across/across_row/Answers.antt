@@ -6,7 +6,6 @@ use Rattle.laws.specs.Runs.{stamp_same}
 use Rattle.wiener.proofs.TapLaws.{small_horizontal, narrow_rows}
 use Rattle.wiener.proofs.SumLaws.{halves_part}
 use Rattle.wiener.proofs.PassLaws.{AcrossNumbers, across_mild, across_value, samples_halves}
-use borrow.Author.Rules.{rules}
 use Rattle.wiener.proofs.across.across_row.Lts as lts
 use Rattle.wiener.proofs.across.across_row.Reads as reads
 use Rattle.wiener.proofs.across.across_row.Tie as tie

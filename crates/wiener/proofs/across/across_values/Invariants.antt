@@ -1,13 +1,8 @@
 -- The row so far is the stamp of x values; one more store makes it x + 1.
-use Prim.Native.Nat.{ℕ, ◌+◌, ◌-◌, ◌≤◌}
-use mathlib.Core.Path.{◌≡◌, ◌∙◌, ap}
-use native.Mathlib.Omega.{arith}
-use lib.ListN.{length}
-use mir.Syntax.{w16}
-use Rattle.laws.specs.ReadBack.{returned}
-use Rattle.laws.specs.Runs.{stamp, stamp_none, stamp_more, stamp_length}
+use Prim.Native.Nat.{◌+◌, ◌-◌, ◌≤◌}
+use mathlib.Core.Path.{◌≡◌}
+use Rattle.laws.specs.Runs.{stamp}
 use Rattle.wiener.specs.Passes.{seven, settled}
-use Rattle.wiener.proofs.SumLaws.{seven_halves}
 use Rattle.wiener.proofs.across.across_values.Given as goal
 
 abbrev pub invariant-loop-x : goal.invariant-loop-x

@@ -6,7 +6,6 @@ use Rattle.laws.specs.Runs.{stamp_same}
 use Rattle.wiener.proofs.TapLaws.{small_vertical, narrow_rows}
 use Rattle.wiener.proofs.SumLaws.{halves_part}
 use Rattle.wiener.proofs.PassLaws.{DownNumbers, down_mild, down_value}
-use borrow.Author.Rules.{rules}
 use Rattle.wiener.proofs.down.down_row.Lts as lts
 use Rattle.wiener.proofs.down.down_row.Reads as reads
 use Rattle.wiener.proofs.down.down_row.Tie as tie

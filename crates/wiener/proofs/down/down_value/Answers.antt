@@ -4,7 +4,6 @@ use mir.Syntax.{w32}
 use Rattle.laws.specs.ReadBack.{returned, abs_at}
 use Rattle.wiener.specs.Passes.{settled}
 use Rattle.wiener.proofs.SumLaws.{seven_small}
-use borrow.Author.Rules.{rules}
 use Rattle.wiener.proofs.down.down_value.Goals as goal
 
 pub settle-requires : goal.settle-requires

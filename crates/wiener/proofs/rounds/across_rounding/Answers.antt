@@ -10,7 +10,6 @@ use Rattle.laws.specs.ReadBack.{returned, one_shifted}
 use Rattle.standard.specs.Depths.{offset, limit}
 use Rattle.wiener.specs.Passes.{bias}
 use Rattle.wiener.proofs.PassLaws.{r0_low, r0_high, offset_high, limit_high}
-use borrow.Author.Rules.{rules}
 use Rattle.wiener.proofs.rounds.across_rounding.Goals as goal
 
 -- the depth's offset less 16384

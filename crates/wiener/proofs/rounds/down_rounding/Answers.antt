@@ -10,7 +10,6 @@ use Rattle.laws.specs.ReadBack.{returned, one_shifted}
 use Rattle.standard.specs.Depths.{offset}
 use Rattle.wiener.specs.Passes.{bias}
 use Rattle.wiener.proofs.PassLaws.{r1_low, r1_high, offset_high}
-use borrow.Author.Rules.{rules}
 use Rattle.wiener.proofs.rounds.down_rounding.Goals as goal
 
 -- the depth's offset less 16384

@@ -12,7 +12,6 @@ use Rattle.laws.specs.ReadBack.{returned}
 use Rattle.laws.specs.Sizes.{abs_mag}
 use Rattle.wiener.specs.Passes.{settled}
 use Rattle.wiener.proofs.PassLaws.{clip_ends}
-use borrow.Author.Rules.{rules}
 use Rattle.wiener.proofs.rounds.settle.Lts as lts
 use Rattle.wiener.proofs.rounds.settle.Reads as reads
 use Rattle.wiener.proofs.rounds.settle.Tie as tie

@@ -1,6 +1,5 @@
 -- What the rows hold, from the four taps and the runs.
 use Rattle.wiener.proofs.TapLaws.{small_horizontal, four_sized, tap_rows_of}
-use borrow.Author.Rules.{rules}
 use Rattle.wiener.proofs.taps.horizontal_rows.Goals as goal
 
 pub tap_rows-requires : goal.tap_rows-requires

@@ -1,12 +1,7 @@
 -- The area so far is the rectangle of i rows; one more call makes it i + 1.
-use Prim.Native.Nat.{ℕ, ◌+◌, ◌*◌, ◌-◌, ◌≤◌}
-use mathlib.Core.Path.{◌≡◌, refl, ◌∙◌, ap}
-use native.Mathlib.Omega.{arith}
-use native.Mathlib.Nat.{mul-le-mul_right}
-use lib.ListN.{length}
-use Rattle.laws.specs.Bounds.{samples_part}
-use Rattle.laws.specs.Index.{row_le}
-use Rattle.laws.specs.Rows.{rows, rows_none, rows_more, rows_length}
+use Prim.Native.Nat.{◌+◌, ◌*◌, ◌-◌, ◌≤◌}
+use mathlib.Core.Path.{◌≡◌}
+use Rattle.laws.specs.Rows.{rows}
 use Rattle.wiener.specs.Passes.{across_at}
 use Rattle.wiener.proofs.window.across_window.Given as goal
 

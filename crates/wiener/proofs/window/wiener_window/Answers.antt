@@ -4,7 +4,6 @@ use native.Mathlib.Omega.{arith}
 use Prim.Native.Nat.{◌+◌}
 use Rattle.laws.specs.Rows.{rows_same}
 use Rattle.wiener.proofs.WindowLaws.{sampled, window_rows, as_long, area_halves, window_value}
-use borrow.Author.Rules.{rules}
 use Rattle.wiener.proofs.window.wiener_window.Goals as goal
 
 pub across_window-requires : goal.across_window-requires
