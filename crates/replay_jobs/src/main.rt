@@ -3,7 +3,7 @@
 // count, and the samples by which the in-place run differs; entries are 16 bits, low byte first.
 #![tactic(auto)]
 
-ghost use Rattle.std.specs.Prelude.{◌+◌, ◌*◌, ◌≤◌, ◌<◌, length, IfOk};
+ghost use Rattle.std.specs.Prelude.{◌+◌, ◌*◌, ◌≤◌, ◌<◌, length, IfOk, ◌≡◌, OnErr};
 
 use input::read_full;
 use job::entries::entry;
@@ -22,7 +22,8 @@ pub struct Tally {
 // The next record's entries to the start of `bytes`; their number, or 0 where the file ends.
 fn next(file: &mut File, bytes: &mut [u8]) -> io::Result<usize>
     requires { 65536 ≤ length bytes.old }
-    ensures { IfOk result (λ n. 2 * n ≤ length bytes.new) }
+    ensures ok { IfOk result (λ n. 2 * n ≤ length bytes.new) }
+    ensures err { OnErr result (length bytes.new ≡ length bytes.old) }
 {
     let mut head = [0u8; 2];
     if read_full(file, &mut head)? != 2 {

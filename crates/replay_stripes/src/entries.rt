@@ -1,5 +1,5 @@
 // A record's entries: 16 bits, low byte first, two's complement where a number may be negative.
-ghost use Rattle.std.specs.Prelude.{◌+◌, ◌*◌, ◌≤◌, ◌<◌, length, IfOk};
+ghost use Rattle.std.specs.Prelude.{◌+◌, ◌*◌, ◌≤◌, ◌<◌, length, IfOk, ◌≡◌, OnErr};
 
 use input::read_full;
 use standard::Frame;
@@ -25,7 +25,8 @@ pub fn entry(s: &[u8], k: usize) -> u32
 // The next record's entries to the start of `bytes`; their number, or 0 where the file ends.
 pub fn next(file: &mut File, bytes: &mut [u8]) -> io::Result<usize>
     requires { 65536 ≤ length bytes.old }
-    ensures { IfOk result (λ n. 2 * n ≤ length bytes.new) }
+    ensures ok { IfOk result (λ n. 2 * n ≤ length bytes.new) }
+    ensures err { OnErr result (length bytes.new ≡ length bytes.old) }
 {
     let mut head = [0u8; 2];
     if read_full(file, &mut head)? != 2 {

@@ -2,7 +2,7 @@
 // twelve frame numbers, the input and the output, each plane after its own count; entries are 16 bits, low byte first.
 #![tactic(auto)]
 
-ghost use Rattle.std.specs.Prelude.{◌+◌, ◌*◌, ◌≤◌, ◌<◌, length, IfOk};
+ghost use Rattle.std.specs.Prelude.{◌+◌, ◌*◌, ◌≤◌, ◌<◌, length, IfOk, ◌≡◌, OnErr};
 
 use input::read_full;
 use standard::{Scaling, Stored};
@@ -35,7 +35,8 @@ fn entry(s: &[u8], k: usize) -> u32
 // The next record's entries to the start of `bytes`; their number, or 0 where the file ends.
 fn next(file: &mut File, bytes: &mut [u8]) -> io::Result<usize>
     requires { 65536 ≤ length bytes.old }
-    ensures { IfOk result (λ n. 2 * n ≤ length bytes.new) }
+    ensures ok { IfOk result (λ n. 2 * n ≤ length bytes.new) }
+    ensures err { OnErr result (length bytes.new ≡ length bytes.old) }
 {
     let mut head = [0u8; 2];
     if read_full(file, &mut head)? != 2 {

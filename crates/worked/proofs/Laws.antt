@@ -30,7 +30,7 @@ use Rattle.counted.specs.Whole.{Whole}
 use Rattle.counted.proofs.Laws.{changed_flat}
 use Rattle.restoration.proofs.Answers.{written_whole}
 use Rattle.worked.specs.Work.{job_with, work_answer, work_rows, report_of, differing}
-use Rattle.worked.proofs.Run.{passed, in_place_whole}
+use Rattle.worked.proofs.Run.{in_place_whole}
 
 -- ---- marks of one to three stripes
 pub clear_marks : (n : ℕ) → n ≤ 3 → take {A = ℕ} (n - 0) (0 ∷ 0 ∷ 0 ∷ []) ≡ replicate n 0

@@ -11,7 +11,6 @@ use Rattle.stripe_tests.specs.Parts.{all_tests}
 use Rattle.stripe_tests.proofs.Passed.{StripePassed, one_mark_each, stripe_passed}
 use Rattle.in_place.specs.Call.{call_of, lent}
 use Rattle.in_place.proofs.Answers.{marks_done, marks_refused, number_is, plane_done, plane_refused}
-use borrow.Author.Rules.{rules}
 use Rattle.in_place.proofs.restore_stripe.Goals as goal
 
 module _ (c : goal.After-write_stripe-arg-in-Done-2-1) where

@@ -5,7 +5,6 @@ use native.Mathlib.Omega.{arith}
 use lib.ListN.{length}
 use Rattle.stripe_tests.proofs.Passed.{StripePassed}
 use Rattle.in_place.proofs.Stripe.{untouched}
-use borrow.Author.Rules.{rules}
 use Rattle.in_place.proofs.write_stripe.Goals as goal
 
 pub returns-then-f-eq0 : goal.returns-then-f-eq0

@@ -4,14 +4,12 @@ use native.Mathlib.Omega.{arith}
 use Prim.Native.Nat.{◌-◌}
 use lib.ListN.{length, take}
 use lib.Seq.{length-take-le}
-use Rattle.standard.specs.declared.Sections.{Sections}
 use Rattle.standard.specs.Answers.{of_job_read}
 use Rattle.standard.proofs.Answers.{job_refused}
 use Rattle.standard.specs.Job.{job_of}
-use Rattle.job.proofs.Laws.{Found, found_in}
+use Rattle.job.proofs.Laws.{found_in}
 use Rattle.worked.specs.Work.{job_with}
 use Rattle.worked.proofs.Laws.{opened_long, job_lent, units_count, deblocked_count, cdef_count, bounds_lent, run_refused, rows_refused, run_same, rows_put}
-use borrow.Author.Rules.{rules}
 use Rattle.worked.proofs.run_to.Goals as goal
 
 pub slice_bounds-work-end : goal.slice_bounds-work-end

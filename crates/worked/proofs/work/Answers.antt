@@ -9,12 +9,11 @@ use Rattle.standard.specs.declared.Frame.{Frame}
 use Rattle.standard.specs.Answers.{of_restored, job_refusal_number}
 use Rattle.standard.proofs.Answers.{refusal_back}
 use Rattle.standard.specs.Calls.{plane_answer}
-use Rattle.standard.specs.Refusals.{first, samples}
-use Rattle.standard.specs.Job.{Job, job_tests}
+use Rattle.standard.specs.Refusals.{first}
+use Rattle.standard.specs.Job.{job_tests}
 use Rattle.worked.specs.Work.{job_with, work_rows}
 use Rattle.worked.proofs.Run.{passed}
 use Rattle.worked.proofs.Laws.{plane_done, plane_refused, same_number, same_rows, refused_answer, out_whole, plane_whole, done_answer}
-use borrow.Author.Rules.{rules}
 use Rattle.worked.proofs.work.Goals as goal
 
 -- where the whole-plane call is done, no test holds

@@ -2,7 +2,6 @@
 use mathlib.Core.Path.{sym, ◌∙◌, ap}
 use Rattle.laws.specs.Congruence.{ap2}
 use Rattle.standard.specs.Answers.{of_placed}
-use borrow.Author.Rules.{rules}
 use Rattle.host.proofs.answers.placed.Goals as goal
 
 pub returns-in-Done : goal.returns-in-Done

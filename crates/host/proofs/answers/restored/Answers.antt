@@ -1,7 +1,6 @@
 -- Each arm is the arm of the answer in numbers.
 use mathlib.Core.Path.{sym, ◌∙◌, ap}
 use Rattle.standard.specs.Answers.{of_restored}
-use borrow.Author.Rules.{rules}
 use Rattle.host.proofs.answers.restored.Goals as goal
 
 pub returns-in-Done : goal.returns-in-Done

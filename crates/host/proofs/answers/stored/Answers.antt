@@ -1,7 +1,6 @@
 -- 0, or the number of the refusal.
 use mathlib.Core.Path.{sym, ◌∙◌, ap}
 use Rattle.standard.specs.Answers.{of_stored}
-use borrow.Author.Rules.{rules}
 use Rattle.host.proofs.answers.stored.Goals as goal
 
 pub returns-in-Refused : goal.returns-in-Refused

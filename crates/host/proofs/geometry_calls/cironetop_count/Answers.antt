@@ -1,6 +1,5 @@
 -- The answer of count, told in numbers.
 use mathlib.Core.Path.{◌∙◌}
-use borrow.Author.Rules.{rules}
 use Rattle.host.proofs.geometry_calls.cironetop_count.Goals as goal
 
 pub returns : goal.returns

@@ -5,7 +5,6 @@ use mir.Facts.{to_z-of_z}
 use Rattle.laws.specs.ReadBack.{returned}
 use Rattle.standard.specs.Calls.{sample_answer}
 use Rattle.sample.proofs.Laws.{ten}
-use borrow.Author.Rules.{rules}
 use Rattle.host.proofs.sample_calls.cironetop_restore_sample.Goals as goal
 
 pub returns : goal.returns

@@ -2,7 +2,6 @@
 use mathlib.Core.Path.{◌∙◌}
 use Rattle.laws.specs.Congruence.{ap2}
 use Rattle.in_place.specs.Call.{lent}
-use borrow.Author.Rules.{rules}
 use Rattle.host.proofs.stripe_calls.cironetop_restore_stripe.Goals as goal
 
 pub returns : goal.returns

@@ -1,7 +1,6 @@
 -- The rows that are lent out are the definition's, and the copy begins with them.
 use native.Mathlib.Omega.{arith}
 use Rattle.in_place.proofs.Answers.{copied, copy_fits}
-use borrow.Author.Rules.{rules}
 use Rattle.in_place.proofs.rows.copy_rows.Goals as goal
 
 pub copy_run-requires : goal.copy_run-requires

@@ -8,7 +8,6 @@ use Rattle.fetch.specs.Source.{stripe_source}
 use Rattle.restoration.proofs.Whole.{a2_table}
 use Rattle.stripe_tests.proofs.Laws.{legal, rows_of}
 use Rattle.in_place.proofs.Stripe.{asked, stripe_asked, stripe_written}
-use borrow.Author.Rules.{rules}
 use Rattle.in_place.proofs.rows.restore_rows.Lts as lts
 use Rattle.in_place.proofs.rows.restore_rows.Reads as reads
 use Rattle.in_place.proofs.rows.restore_rows.Tie as tie

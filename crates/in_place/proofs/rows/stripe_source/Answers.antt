@@ -2,7 +2,6 @@
 use mathlib.Core.Path.{refl}
 use native.Mathlib.Omega.{arith}
 use Rattle.in_place.proofs.Answers.{source_of}
-use borrow.Author.Rules.{rules}
 use Rattle.in_place.proofs.rows.stripe_source.Goals as goal
 
 pub returns-then-s-eq0 : goal.returns-then-s-eq0

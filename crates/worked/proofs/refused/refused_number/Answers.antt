@@ -1,7 +1,6 @@
 -- Each case is its number.
 use mathlib.Core.Path.{sym, ◌∙◌, ap}
 use Rattle.standard.specs.Answers.{job_refusal_number}
-use borrow.Author.Rules.{rules}
 use Rattle.worked.proofs.refused.refused_number.Goals as goal
 
 pub returns-in-NoJob : goal.returns-in-NoJob

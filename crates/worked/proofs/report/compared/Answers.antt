@@ -1,6 +1,5 @@
 -- The count of the places where the two differ.
 use mathlib.Core.Path.{◌∙◌, ap}
-use borrow.Author.Rules.{rules}
 use Rattle.worked.specs.Work.{differing, report_of}
 use Rattle.worked.proofs.report.compared.Goals as goal
 

@@ -15,7 +15,6 @@ use Rattle.edges.proofs.Laws.{some_stripe}
 use Rattle.worked.specs.Work.{job_with}
 use Rattle.worked.proofs.Run.{passed, narrow, three, capture_done, in_place_is}
 use Rattle.worked.proofs.Laws.{clear_marks}
-use borrow.Author.Rules.{rules}
 use Rattle.worked.proofs.stripes.by_stripes.Goals as goal
 
 module _ (s : goal.Start) where

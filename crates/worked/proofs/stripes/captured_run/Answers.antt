@@ -5,7 +5,6 @@ use lib.ListN.{length}
 use Rattle.in_place.specs.Call.{lent}
 use Rattle.edges.proofs.Numbers.{captured_done}
 use Rattle.worked.specs.Work.{stripes_run}
-use borrow.Author.Rules.{rules}
 use Rattle.worked.proofs.stripes.captured_run.Goals as goal
 
 pub capture_edges-requires : goal.capture_edges-requires

@@ -1,12 +1,9 @@
 -- Stripe by stripe: plane and marks are what the run so far leaves, and the lent rooms keep their lengths.
-use Prim.Native.Nat.{ℕ, ◌-◌, ◌≤◌}
-use mathlib.Core.Path.{◌≡◌, refl, ◌∙◌, ap}
-use native.Mathlib.Omega.{arith}
+use Prim.Native.Nat.{◌-◌, ◌≤◌}
+use mathlib.Core.Path.{◌≡◌}
 use lib.ListN.{length}
-use Rattle.standard.specs.Calls.{Lent}
 use Rattle.in_place.specs.Call.{lent}
 use Rattle.worked.specs.Work.{stripes_run}
-use Rattle.worked.proofs.Run.{stripes_none, stripes_more}
 use Rattle.worked.proofs.stripes.each_stripe.Given as goal
 
 abbrev pub invariant-loop-s : goal.invariant-loop-s
