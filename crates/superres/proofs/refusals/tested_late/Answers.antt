@@ -14,7 +14,7 @@ returns-then-wrong c = sym (first_here 7 _ _ (sym (ap not c.right_shape-wrong.en
 
 pub returns-then-equal : goal.returns-then-equal
 unfolding refusal_number
-returns-then-equal c = sym (first_past 7 _ _ (sym (ap not c.right_shape-wrong.ensures) ∙ not_from_true _ c.if-wrong.false) ∙ first_here 8 _ _ (sym c.not_wider-equal.ensures ∙ c.if-equal.true))
+returns-then-equal c = sym (first_past 7 _ _ (not_from_true _ (cc)) ∙ first_here 8 _ _ (cc))
 
 pub returns-then-all_samples : goal.returns-then-all_samples
 returns-then-all_samples c = sym (first_past 7 _ _ (sym (ap not c.right_shape-wrong.ensures) ∙ not_from_true _ c.if-wrong.false) ∙ first_past 8 _ _ (sym c.not_wider-equal.ensures ∙ c.if-equal.false) ∙ first_past 15 _ _ (not-true _ (sym c.all_samples.ensures ∙ c.if-all_samples.true)) ∙ first_none)
