@@ -57,7 +57,8 @@ def _address(view: memoryview) -> int:
     buffer = _PyBuffer()
     _get(view, ctypes.byref(buffer), 0)
     try:
-        return buffer.buf or ctypes.addressof(_NOWHERE)
+        # An empty buffer may name any address, also one that is no multiple of its elements' size: it is not looked at.
+        return view.nbytes and buffer.buf or ctypes.addressof(_NOWHERE)
     finally:
         _release(ctypes.byref(buffer))
 
