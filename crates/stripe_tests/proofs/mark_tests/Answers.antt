@@ -17,9 +17,6 @@ use Rattle.stripe_tests.proofs.mark_tests.Goals as goal
 abbrev count : Frame → ℕ
 count f = defined.stripes (sub_y_of f) (plane_height f)
 
-many : (f : Frame) {n y h : ℕ} → n ≡ defined.stripes y h → y ≡ sub_y_of f → h ≡ plane_height f → n ≡ count f
-many f p q r = p ∙ ap2 defined.stripes q r
-
 marks_is : (f : Frame) (marks : List ℕ) {n : ℕ} {b : Bool} → n ≡ count f → b ≡ no12 n marks → b ≡ no12 (count f) marks
 marks_is f marks p q = q ∙ ap (λ (n : ℕ). no12 n marks) p
 
@@ -32,38 +29,38 @@ stripes-n-requires c = let l = legal c.requires.0 in (omega (arith, c.sub_of.ens
 pub returns-then-bad_marks : goal.returns-then-bad_marks
 unfolding refusal_number
 returns-then-bad_marks c =
-    let n = many c.args.f c.stripes-n.ensures c.sub_of.ensures c.extent.ensures in
+    let n = c.stripes-n.ensures ∙ ap2 defined.stripes c.sub_of.ensures c.extent.ensures in
     here _ _ _ (told (marks_is c.args.f c.args.marks.now n c.bad_marks.ensures) c.if-bad_marks.true)
 
 pub returns-then-n-s : goal.returns-then-n-s
 unfolding refusal_number
 returns-then-n-s c =
-    let n = many c.args.f c.stripes-n.ensures c.sub_of.ensures c.extent.ensures in
+    let n = c.stripes-n.ensures ∙ ap2 defined.stripes c.sub_of.ensures c.extent.ensures in
     let w = told (marks_is c.args.f c.args.marks.now n c.bad_marks.ensures) c.if-bad_marks.false in
     past _ _ _ _ w (here _ _ _ (le-leb (count c.args.f) c.args.s (omega (arith, c.if-n-s.true, n))))
 
 pub bounds-marks-s : goal.bounds-marks-s
 bounds-marks-s c =
-    let n = many c.args.f c.stripes-n.ensures c.sub_of.ensures c.extent.ensures in
+    let n = c.stripes-n.ensures ∙ ap2 defined.stripes c.sub_of.ensures c.extent.ensures in
     let w = told (marks_is c.args.f c.args.marks.now n c.bad_marks.ensures) c.if-bad_marks.false in
     omega (arith, c.if-n-s.false, n, marks_long _ _ w)
 
 pub returns-then-marks-s-eq1 : goal.returns-then-marks-s-eq1
 unfolding refusal_number
 returns-then-marks-s-eq1 c =
-    let n = many c.args.f c.stripes-n.ensures c.sub_of.ensures c.extent.ensures in
+    let n = c.stripes-n.ensures ∙ ap2 defined.stripes c.sub_of.ensures c.extent.ensures in
     let w = told (marks_is c.args.f c.args.marks.now n c.bad_marks.ensures) c.if-bad_marks.false in
     let t : c.args.s < count c.args.f = omega (arith, c.if-n-s.false, n) in
     past _ _ _ _ w (past _ _ _ _ (lt-leb _ _ t) (here _ _ _ (eq-eqb _ _ c.if-marks-s-eq1.true)))
 
 pub last_tests-requires : goal.last_tests-requires
 last_tests-requires c =
-    let n = many c.args.f c.stripes-n.ensures c.sub_of.ensures c.extent.ensures in
+    let n = c.stripes-n.ensures ∙ ap2 defined.stripes c.sub_of.ensures c.extent.ensures in
     (c.requires.0, omega (arith, c.if-n-s.false, n), c.requires.1, c.requires.2)
 
 pub returns : goal.returns
 returns c =
-    let n = many c.args.f c.stripes-n.ensures c.sub_of.ensures c.extent.ensures in
+    let n = c.stripes-n.ensures ∙ ap2 defined.stripes c.sub_of.ensures c.extent.ensures in
     let w = told (marks_is c.args.f c.args.marks.now n c.bad_marks.ensures) c.if-bad_marks.false in
     let t : c.args.s < count c.args.f = omega (arith, c.if-n-s.false, n) in
     past _ _ _ _ w (past _ _ _ _ (lt-leb _ _ t) (past _ _ _ _ (ne_eqb _ _ c.if-marks-s-eq1.false) c.last_tests.ensures))

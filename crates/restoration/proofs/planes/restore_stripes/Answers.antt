@@ -14,10 +14,7 @@ use Rattle.restoration.specs.Asked.{Asked}
 use Rattle.restoration.proofs.Whole.{stripe_asked, stripe_added, whole_painted, a2_table, none_painted}
 use Rattle.restoration.proofs.planes.restore_stripes.Goals as goal
 
--- what the callees answered: the count of stripes, which is small
-many : (f : Frame) {n y h : ℕ} → n ≡ defined.stripes y h → y ≡ sub_y_of f → h ≡ plane_height f → n ≡ defined.stripes (sub_y_of f) (plane_height f)
-many f p q r = p ∙ ap2 defined.stripes q r
-
+-- the stripes of a plane are few
 few : (f : Frame) {table : List ℤ} {scratch : ℕ} → Asked f table scratch → defined.stripes (sub_y_of f) (plane_height f) ≤ 2049
 few f p = stripes_small (sub_y_of f) (plane_height f) p.legal.own_y (omega (arith, p.legal.rows_low))
 
@@ -31,20 +28,20 @@ pub loop-at-init : goal.loop-at-init
 loop-at-init c = (omega arith, refl, none_painted _ _ _ _ _ _ _)
 
 pub whole_source-r-requires : goal.whole_source-r-requires
-whole_source-r-requires c = (omega (arith, c.sub_of-own.ensures, c.requires.asked.0.legal.own_y), omega (arith, many c.args.f c.stripes-n.ensures c.sub_of-own.ensures c.extent.ensures, few c.args.f c.requires.asked.0, c.loop-at-test.true))
+whole_source-r-requires c = (omega (arith, c.sub_of-own.ensures, c.requires.asked.0.legal.own_y), omega (arith, c.stripes-n.ensures ∙ ap2 defined.stripes c.sub_of-own.ensures c.extent.ensures, few c.args.f c.requires.asked.0, c.loop-at-test.true))
 
 pub restore_rectangles-requires : goal.restore_rectangles-requires
-restore_rectangles-requires c = let p = c.requires in let v = c.loop-at.invariant in let n = many c.args.f c.stripes-n.ensures c.sub_of-own.ensures c.extent.ensures in let turn : c.loop-at.at < defined.stripes (sub_y_of c.args.f) (plane_height c.args.f) = omega (arith, n, c.loop-at-test.true) in
+restore_rectangles-requires c = let p = c.requires in let v = c.loop-at.invariant in let n = c.stripes-n.ensures ∙ ap2 defined.stripes c.sub_of-own.ensures c.extent.ensures in let turn : c.loop-at.at < defined.stripes (sub_y_of c.args.f) (plane_height c.args.f) = omega (arith, n, c.loop-at-test.true) in
     let b = stripe_asked p.asked.0 c.args.deblocked.now c.args.cdef.now c.loop-at.at turn _ (c.whole_source-r.ensures ∙ ap (λ (o : ℕ). whole_source o c.loop-at.at) c.sub_of-own.ensures) _ c.depth_of-d.ensures p.asked.2 p.asked.3 p.samples.0 p.samples.1 in record { asked = (subst (Asked c.args.f c.args.table.now) (sym v.1) p.asked.0, turn, omega (arith, p.asked.1, v.2.long)); stripe = (b.0, a2_table _ c.table.ensures); fetchable = b.1 }
 
 pub overflow_add-at : goal.overflow_add-at
-overflow_add-at c = omega (arith, many c.args.f c.stripes-n.ensures c.sub_of-own.ensures c.extent.ensures, few c.args.f c.requires.asked.0, c.loop-at-test.true)
+overflow_add-at c = omega (arith, c.stripes-n.ensures ∙ ap2 defined.stripes c.sub_of-own.ensures c.extent.ensures, few c.args.f c.requires.asked.0, c.loop-at-test.true)
 
 pub loop-at-smaller : goal.loop-at-smaller
 loop-at-smaller c = omega (arith, c.loop-at-test.true)
 
 pub loop-at-preserved : goal.loop-at-preserved
-loop-at-preserved c = let p = c.requires in let v = c.loop-at.invariant in let n = many c.args.f c.stripes-n.ensures c.sub_of-own.ensures c.extent.ensures in let turn : c.loop-at.at < defined.stripes (sub_y_of c.args.f) (plane_height c.args.f) = omega (arith, n, c.loop-at-test.true) in (
+loop-at-preserved c = let p = c.requires in let v = c.loop-at.invariant in let n = c.stripes-n.ensures ∙ ap2 defined.stripes c.sub_of-own.ensures c.extent.ensures in let turn : c.loop-at.at < defined.stripes (sub_y_of c.args.f) (plane_height c.args.f) = omega (arith, n, c.loop-at-test.true) in (
   omega (arith, c.loop-at-test.true),
   c.restore_rectangles.auto.s ∙ v.1,
   stripe_added p.asked.0 c.args.deblocked.now c.args.cdef.now c.loop-at.at turn _ (c.whole_source-r.ensures ∙ ap (λ (o : ℕ). whole_source o c.loop-at.at) c.sub_of-own.ensures) _ c.depth_of-d.ensures c.args.out.now c.loop-at.out _ v.2 c.restore_rectangles.ensures,
@@ -57,4 +54,4 @@ pub shape_of-s : goal.shape_of-s
 shape_of-s c = c.loop-at.invariant.1
 
 pub returns : goal.returns
-returns c = whole_painted c.requires.asked.0 _ _ _ _ _ (omega (arith, many c.args.f c.stripes-n.ensures c.sub_of-own.ensures c.extent.ensures, c.loop-at.invariant.0, c.loop-at-test.false)) c.requires.asked.1 c.loop-at.invariant.2
+returns c = whole_painted c.requires.asked.0 _ _ _ _ _ (omega (arith, c.stripes-n.ensures ∙ ap2 defined.stripes c.sub_of-own.ensures c.extent.ensures, c.loop-at.invariant.0, c.loop-at-test.false)) c.requires.asked.1 c.loop-at.invariant.2
