@@ -1,19 +1,20 @@
 -- The number that each test of whole-plane restore gives, where earlier ones have answered; and what is known where none gives one.
 use mathlib.Core.Path.{◌≡◌, sym, ◌∙◌, ap}
 use mathlib.Core.Bool.{Bool, true, false, not, ◌&&◌, ◌||◌}
-use mathlib.Core.List.{List}
+use mathlib.Core.List.{List, [], ◌∷◌}
 use Prim.Native.Nat.{ℕ, ◌*◌, ◌<◌, ◌≤◌}
 use native.Mathlib.Omega.{arith}
-use borrow.Author.Tests.{eq-eqb, ne_eqb, eqb-true, not-false, lt-ltb, le-ltb, ltb-false}
+use borrow.Author.Tests.{eqb-true, not-false, lt-ltb, le-ltb, ltb-false}
 use lib.Dec.{eqb, ltb}
 use lib.IntN.{ℤ}
 use lib.ListN.{length}
 use Rattle.laws.specs.Tests.{and_l, and_r, not_no, is_true, or_no}
 use Rattle.standard.specs.declared.Frame.{Frame}
 use Rattle.standard.specs.Stripes.{units}
-use Rattle.standard.specs.Refusals.{first, no1, no2, no3, no4, no10, no11, no15, size5, count_tests, plane_tests, sub_y_of, plane_height, plane_width, samples, scratch_need}
-use Rattle.standard.proofs.Refusals.{plane_table}
-use Rattle.frames.proofs.Legal.{LegalFrame, legal_frame}
+use Rattle.standard.specs.Refusals.{first, frame2, frame4, no1, no2, no3, no4, no10, no11, no15, size5, count_tests, plane_tests, sub_y_of, plane_height, plane_width, samples, scratch_need}
+use Rattle.standard.proofs.Refusals.{plane_table, first_past}
+use Rattle.frames.proofs.Legal.{LegalFrame, given_between, legal_frame}
+use Rattle.frames.specs.declared.plane.Plane.{Plane}
 use Rattle.geometry.proofs.Laws.{units_small}
 use Rattle.geometry.proofs.Tests as counts
 
@@ -23,16 +24,6 @@ misshapen f d c out = not (eqb d (samples f) && eqb c (samples f) && eqb out (sa
 
 abbrev pub short : Frame → ℕ → Bool
 short f scratch = ltb scratch (scratch_need (sub_y_of f) (plane_height f) (plane_width f))
-
-module _ (a b c n : ℕ) where
-  pub shape_first : (a ≡ n → ⊥) → true ≡ not (eqb a n && eqb b n && eqb c n)
-  shape_first e = rw (ne_eqb a n e)
-
-  pub shape_second : a ≡ n → (b ≡ n → ⊥) → true ≡ not (eqb a n && eqb b n && eqb c n)
-  shape_second p e = rw (eq-eqb a n p, ne_eqb b n e)
-
-  pub shape_third : a ≡ n → b ≡ n → not (eqb c n) ≡ not (eqb a n && eqb b n && eqb c n)
-  shape_third p q = rw (eq-eqb a n p, eq-eqb b n q)
 
 pub or_first : (a b : Bool) → a ≡ true → true ≡ (a || b)
 or_first a b e = rw e
@@ -44,6 +35,14 @@ or_second a b e = rw e
 -- 1 to 4 give none
 abbrev pub Framed : Frame → Type 0
 Framed f = (no1 f.depth ≡ false) × (no2 f.plane f.sub_x f.sub_y ≡ false) × (no3 f.frame_type ≡ false) × (no4 f.frame_height ≡ false) × (no4 f.upscaled_width ≡ false)
+
+-- a plane has what 2 and 4 ask for
+pub framed : (p : Plane) → no1 p.frame.depth ≡ false → no3 p.frame.frame_type ≡ false → Framed p.frame
+framed p e1 e3 = (e1, p.plane, e3, p.high, p.wide)
+
+pub plain_framed : (p : Plane) → no1 p.frame.depth ≡ false → p.frame.frame_type ≡ 0 → Framed p.frame
+unfolding no3
+plain_framed p e1 z = framed p e1 (le-ltb 3 p.frame.frame_type (omega (arith, z)))
 
 module _ (f : Frame) (table D C : List ℤ) (out scratch : ℕ) where
   abbrev number : ℕ
@@ -63,14 +62,9 @@ module _ (f : Frame) (table D C : List ℤ) (out scratch : ℕ) where
       unfolding plane_tests first
       gives_3 e = rw (e1, e2, e)
 
-      module _ (e3 : no3 f.frame_type ≡ false) where
-        pub gives_4 : no4 f.frame_height ≡ true → 4 ≡ number
-        unfolding plane_tests first
-        gives_4 e = rw (e1, e2, e3, e)
-
-        pub gives_4_wide : no4 f.frame_height ≡ false → no4 f.upscaled_width ≡ true → 4 ≡ number
-        unfolding plane_tests first
-        gives_4_wide h e = rw (e1, e2, e3, h, e)
+    pub gives_4 : no3 f.frame_type ≡ false → (n : ℕ) → 1 ≤ n → n ≡ first (frame2 f ∷ frame4 f ∷ []) → n ≡ number
+    unfolding plane_tests
+    gives_4 e3 n p e = given_between f (no3 f.frame_type) n _ e3 p e ∙ sym (first_past 1 (no1 f.depth) _ e1)
 
   -- frame type 0: 7 and 15 alone
   module _ (p : Framed f) (z : f.frame_type ≡ 0) where

@@ -1,9 +1,8 @@
 -- The separable sum is the box's: sums down, then across. A grid seen from another place has the same boxes there.
-use mathlib.Core.Path.{◌≡◌, refl, sym, ◌∙◌, ap, subst}
+use mathlib.Core.Path.{◌≡◌, refl, sym, ◌∙◌, ap}
 use mathlib.Core.List.{List}
 use Prim.Native.Nat.{ℕ, zero, suc, ◌+◌, ◌-◌, ◌*◌, ◌≤◌, ◌<◌}
 use native.Mathlib.Omega.{arith}
-use native.Mathlib.Numerals.{add-one}
 use lib.IntN.{ℤ}
 use Rattle.laws.specs.Congruence.{ap2}
 use Rattle.standard.specs.declared.Depth.{Depth}
@@ -33,30 +32,29 @@ sum_swap zero n f = sym (sum_zero n)
 sum_swap (suc m) n f = ap (λ (x : ℕ). x + sum n (λ j. f m j)) (sum_swap m n f) ∙ sym (sum_plus n (λ j. sum m (λ i. f i j)) (λ j. f m j))
 
 -- the box whose corner is at 0, j
-pub box_is : (r : ℕ) (g : Grid) (j : ℕ) → box_sum r g r (j + r) ≡ sum (suc (2 * r)) (λ k. sum (suc (2 * r)) (λ i. g i (j + k)))
+pub box_is : (r : ℕ) (g : Grid) (j : ℕ) → box_sum r g r (j + r) ≡ sum (2 * r + 1) (λ k. sum (2 * r + 1) (λ i. g i (j + k)))
 unfolding box_sum
 box_is r g j =
-    ap (λ (n : ℕ). sum n (λ i. sum n (λ k. g (r + i - r) (j + r + k - r)))) (add-one (2 * r))
-    ∙ sum_swap (suc (2 * r)) (suc (2 * r)) (λ i k. g (r + i - r) (j + r + k - r))
-    ∙ sum_same (suc (2 * r)) _ _ (λ k p. sum_same (suc (2 * r)) _ _ (λ i q. ap2 g (omega arith) (omega arith)))
+    sum_swap (2 * r + 1) (2 * r + 1) (λ i k. g (r + i - r) (j + r + k - r))
+    ∙ sum_same (2 * r + 1) _ _ (λ k p. sum_same (2 * r + 1) _ _ (λ i q. ap2 g (omega arith) (omega arith)))
 
 -- a sum across a run
-pub sums_across : (n : ℕ) (f : ℕ → ℕ) {at m : ℕ} {l : List ℤ} → Run f at m l → (j : ℕ) → j + n < m → sums (suc n) l (at + j) 1 ≡ sum (suc n) (λ k. f (j + k))
+pub sums_across : (n : ℕ) (f : ℕ → ℕ) {at m : ℕ} {l : List ℤ} → Run f at m l → (j : ℕ) → j + n < m → sums (n + 1) l (at + j) 1 ≡ sum (n + 1) (λ k. f (j + k))
 unfolding sums
-sums_across n f {at} {m} {l} p j h = sum_same (suc n) _ _ (λ k q. ap (sample_at l) (index k) ∙ run_at p (j + k) (omega arith))
+sums_across n f {at} {m} {l} p j h = sum_same (n + 1) _ _ (λ k q. ap (sample_at l) (index k) ∙ run_at p (j + k) (omega arith))
   where
     index : (k : ℕ) → at + j + k * 1 ≡ at + (j + k)
     index k = omega arith
 
 -- sums down, then across
 module _ (r : ℕ) (s : List ℤ) (from st j : ℕ) where
-  pub box_sum_lem : sum (suc (2 * r)) (λ k. sums (suc (2 * r)) s (from + (j + k)) st) ≡ box_sum r (seen st s from) r (j + r)
+  pub box_sum_lem : sum (2 * r + 1) (λ k. sums (2 * r + 1) s (from + (j + k)) st) ≡ box_sum r (seen st s from) r (j + r)
   unfolding sums seen
-  box_sum_lem = sum_same (suc (2 * r)) _ _ (λ k p. sum_same (suc (2 * r)) _ _ (λ i q. ap (sample_at s) (omega arith))) ∙ sym (box_is r (seen st s from) j)
+  box_sum_lem = sum_same (2 * r + 1) _ _ (λ k p. sum_same (2 * r + 1) _ _ (λ i q. ap (sample_at s) (omega arith))) ∙ sym (box_is r (seen st s from) j)
 
-  pub box_squares_lem : sum (suc (2 * r)) (λ k. squares (suc (2 * r)) s (from + (j + k)) st) ≡ box_sum r (λ y x. seen st s from y x * seen st s from y x) r (j + r)
+  pub box_squares_lem : sum (2 * r + 1) (λ k. squares (2 * r + 1) s (from + (j + k)) st) ≡ box_sum r (λ y x. seen st s from y x * seen st s from y x) r (j + r)
   unfolding squares seen
-  box_squares_lem = sum_same (suc (2 * r)) _ _ (λ k p. sum_same (suc (2 * r)) _ _ (λ i q. ap (λ (p : ℕ). sample_at s p * sample_at s p) (omega arith))) ∙ sym (box_is r (λ y x. seen st s from y x * seen st s from y x) j)
+  box_squares_lem = sum_same (2 * r + 1) _ _ (λ k p. sum_same (2 * r + 1) _ _ (λ i q. ap (λ (p : ℕ). sample_at s p * sample_at s p) (omega arith))) ∙ sym (box_is r (λ y x. seen st s from y x * seen st s from y x) j)
 
 -- ---- a grid that is another one seen from row p, column q, as far as row Y and column X
 module _ (g h : Grid) (p q Y X : ℕ) (e : (i j : ℕ) → i ≤ Y → j ≤ X → h i j ≡ g (p + i) (q + j)) where
@@ -77,11 +75,10 @@ pub a2_bounded : (d : Depth) (r eps : ℕ) (g : Grid) (y x : ℕ) → a2_at d r 
 unfolding a2_at
 a2_bounded d r eps g y x = a2_most _
 
-box_bounded : (r m : ℕ) (g : Grid) (y x : ℕ) → ((i j : ℕ) → i ≤ y + r → j ≤ x + r → g i j ≤ m) → box_sum r g y x ≤ suc (2 * r) * (suc (2 * r) * m)
+box_bounded : (r m : ℕ) (g : Grid) (y x : ℕ) → ((i j : ℕ) → i ≤ y + r → j ≤ x + r → g i j ≤ m) → box_sum r g y x ≤ (2 * r + 1) * ((2 * r + 1) * m)
 unfolding box_sum
 box_bounded r m g y x h =
-    subst (λ (n : ℕ). sum n (λ i. sum n (λ j. g (y + i - r) (x + j - r))) ≤ suc (2 * r) * (suc (2 * r) * m)) (sym (add-one (2 * r)))
-    (sum_small (suc (2 * r)) (suc (2 * r) * m) _ (λ i p. sum_small (suc (2 * r)) m _ (λ j q. h (y + i - r) (x + j - r) (omega arith) (omega arith))))
+    sum_small (2 * r + 1) ((2 * r + 1) * m) _ (λ i p. sum_small (2 * r + 1) m _ (λ j q. h (y + i - r) (x + j - r) (omega arith) (omega arith)))
 
 pub b2_bounded : (d : Depth) (r eps : ℕ) (g : Grid) (y x : ℕ) → r ≤ 2 → ((i j : ℕ) → i ≤ y + r → j ≤ x + r → g i j ≤ largest d) → b2_at d r eps g y x ≤ 1045245
 unfolding b2_at a2_at

@@ -3,8 +3,8 @@ use mathlib.Core.Path.{◌≡◌, refl, sym, ◌∙◌, ap}
 use mathlib.Core.List.{List}
 use Prim.Native.Nat.{ℕ, ◌+◌, ◌≤◌, ◌<◌}
 use native.Mathlib.Omega.{arith}
-use lib.ListN.{length, get_or, set}
-use Rattle.laws.specs.Runs.{stamp, stamp_set, stamp_more, stamp_length, stamp_outside}
+use lib.ListN.{get_or, set}
+use Rattle.laws.specs.Runs.{stamp, stamp_set, stamp_more, stamp_outside}
 
 module _ {A : Type 0} where
   module _ (f g : ℕ → A) (to sq : ℕ) (d : List A) where
@@ -14,9 +14,6 @@ module _ {A : Type 0} where
     pub pair_none : d ≡ pair 0
     unfolding stamp
     pair_none = refl
-
-    pub pair_length : (n : ℕ) → length (pair n) ≡ length d
-    pair_length n = stamp_length g sq n _ ∙ stamp_length f to n d
 
     -- what lies before both is as it was
     pub pair_before : (n i : ℕ) (l : List A) (z : A) → l ≡ pair n → to ≤ sq → i < to → get_or l i z ≡ get_or d i z

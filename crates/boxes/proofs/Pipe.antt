@@ -1,12 +1,12 @@
 -- The five steps of a row of the box filter, over plain lists: what each step's reads are, and what the last list holds.
-use mathlib.Core.Path.{◌≡◌, refl, ◌∙◌, ap}
+use mathlib.Core.Path.{◌≡◌, refl, sym, ◌∙◌, ap, subst}
 use mathlib.Core.List.{List}
-use Prim.Native.Nat.{ℕ, suc, ◌+◌, ◌-◌, ◌*◌, ◌≤◌, ◌<◌}
+use Prim.Native.Nat.{ℕ, ◌+◌, ◌-◌, ◌*◌, ◌≤◌, ◌<◌}
 use native.Mathlib.Omega.{arith}
 use native.Mathlib.Nat.{mul-le-mul_right, mul-le-mul_left, le_trans}
 use lib.IntN.{ℤ, pos}
 use lib.ListN.{length}
-use Rattle.laws.specs.Congruence.{ap2}
+use Rattle.laws.specs.Congruence.{ap2, ap3}
 use Rattle.laws.specs.Runs.{stamp, stamp_length}
 use Rattle.laws.specs.Bounds.{Samples, samples_part}
 use Rattle.standard.specs.Arithmetic.{round_ℕ}
@@ -18,7 +18,6 @@ use Rattle.boxes.specs.Reads.{sample_at, seen, sums, squares}
 use Rattle.boxes.specs.Scales.{z_of}
 use Rattle.boxes.specs.Tables.{Shares, Weighed}
 use Rattle.boxes.specs.BoxRows.{Run, Kept, Setting, BoxRow}
-use Rattle.boxes.proofs.Words.{samples_widen}
 use Rattle.boxes.proofs.SumLaws.{sums_small, squares_small}
 use Rattle.boxes.proofs.ScaleLaws.{largest_most, at_most_25, z_most, a2_cut, weigh}
 use Rattle.boxes.proofs.RunLaws.{run_new, run_same, run_kept, run_at, run_samples, run_shares, run_weighed, kept_before, kept_after, kept_on}
@@ -26,7 +25,7 @@ use Rattle.boxes.proofs.BoxLaws.{sums_across, box_sum_lem, box_squares_lem}
 
 module _ (r : ℕ) (z : Scale) (from line a b w : ℕ) (s : List ℤ) (P : Setting r z from line a b w s) where
   abbrev N : ℕ
-  N = suc (2 * r)
+  N = 2 * r + 1
 
   abbrev most : ℕ
   most = largest z.depth
@@ -67,9 +66,6 @@ module _ (r : ℕ) (z : Scale) (from line a b w : ℕ) (s : List ℤ) (P : Setti
 
   box_small : (j : ℕ) → j < w + 2 → box j ≤ N * (N * most)
   box_small j h = omega (arith, box_sum_lem r s from (w + 6) j, sum_small N (N * most) (λ k. down (j + k)) (λ k p. down_small (j + k) (omega arith)))
-
-  pub first_reads : Samples 4095 from (from + 2 * r * (w + 6) + wide) s
-  first_reads = samples_widen 4095 (largest_most z.depth) P.samples
 
   -- the list that has the sums and not yet the squares
   abbrev mid : List ℤ
@@ -165,24 +161,26 @@ module _ (r : ℕ) (z : Scale) (from line a b w : ℕ) (s : List ℤ) (P : Setti
           pub fifth_shares : Shares a (a + (w + 2)) s4
           fifth_shares = run_shares (λ j. z_of z (area r) (box_squares j) (box j)) shares4
 
-          pub fifth_sums : Weighed (one_over (area r)) zb (zb + (w + 2)) s4
-          fifth_sums = run_weighed (one_over (area r)) zb4 (λ j h. small j h) (λ j h. weigh r z.depth (box j) P.radius (box_small j h))
-            where
-              small : (j : ℕ) → j < w + 2 → box j ≤ 102375
-              small j h = omega (arith, largest_most z.depth, at_most_25 N most at_most_5 (le_trans (box_small j h) (mul-le-mul_left N (mul-le-mul_right most at_most_5))))
+          module _ (o : ℕ) (o_is : o ≡ one_over (area r)) where
+            pub fifth_sums : Weighed o zb (zb + (w + 2)) s4
+            fifth_sums = run_weighed o zb4 (λ j h. small j h) (λ j h. subst (λ (n : ℕ). box j * n ≤ 16789500) (sym o_is) (weigh r z.depth (box j) P.radius (box_small j h)))
+              where
+                small : (j : ℕ) → j < w + 2 → box j ≤ 102375
+                small j h = omega (arith, largest_most z.depth, at_most_25 N most at_most_5 (le_trans (box_small j h) (mul-le-mul_left N (mul-le-mul_right most at_most_5))))
 
-          module _ (s5 : List ℤ) (e5 : s5 ≡ stamp (λ j. pos (round_ℕ 12 ((256 - sample_at s4 (a + j)) * sample_at s4 (zb + j) * one_over (area r)))) b (w + 2) s4) where
-            b5 : Run (λ j. b2_at z.depth r z.eps (seen (w + 6) s from) r (j + r)) b (w + 2) s5
-            unfolding b2_at
-            b5 = run_same _ (run_new _ b (w + 2) s4 e5 (omega (arith, long4, P.room))) (λ j h. ap2 (λ x y. round_ℕ 12 ((256 - x) * y * one_over (area r))) (run_at a4 j h) (run_at zb4 j h))
+            module _ (s5 : List ℤ) (e5 : s5 ≡ stamp (λ j. pos (round_ℕ 12 ((256 - sample_at s4 (a + j)) * sample_at s4 (zb + j) * o))) b (w + 2) s4) where
+              b5 : Run (λ j. b2_at z.depth r z.eps (seen (w + 6) s from) r (j + r)) b (w + 2) s5
+              unfolding b2_at
+              b5 = run_same _ (run_new _ b (w + 2) s4 e5 (omega (arith, long4, P.room)))
+                  (λ j h. ap3 (λ x y n. round_ℕ 12 ((256 - x) * y * n)) (run_at a4 j h) (run_at zb4 j h) o_is)
 
-            pub boxed : BoxRow r z from line a b w s s5
-            boxed = record {
-              long = ap length e5 ∙ stamp_length _ _ _ _ ∙ long4;
-              below = kept_on below4 (kept_before _ b (w + 2) s4 e5 0 line (omega (arith, P.lines, P.order)));
-              middle = kept_on (kept_on (above3 _ a (omega arith)) (kept_before _ a (w + 2) s3 e4 _ a (omega arith))) (kept_before _ b (w + 2) s4 e5 _ a (omega (arith, P.order)));
-              between = kept_on (kept_on (above3 _ b (omega (arith, P.lines))) (kept_after _ a (w + 2) s3 e4 _ b (omega arith))) (kept_before _ b (w + 2) s4 e5 _ b (omega arith));
-              above = kept_on (kept_on (above3 _ (length s) (omega (arith, P.lines, P.order))) (kept_after _ a (w + 2) s3 e4 _ (length s) (omega (arith, P.order)))) (kept_after _ b (w + 2) s4 e5 _ (length s) (omega arith));
-              a2 = run_kept a4 (kept_before _ b (w + 2) s4 e5 a b (omega arith)) (omega arith) P.order;
-              b2 = b5;
-            }
+              pub boxed : BoxRow r z from line a b w s s5
+              boxed = record {
+                long = ap length e5 ∙ stamp_length _ _ _ _ ∙ long4;
+                below = kept_on below4 (kept_before _ b (w + 2) s4 e5 0 line (omega (arith, P.lines, P.order)));
+                middle = kept_on (kept_on (above3 _ a (omega arith)) (kept_before _ a (w + 2) s3 e4 _ a (omega arith))) (kept_before _ b (w + 2) s4 e5 _ a (omega (arith, P.order)));
+                between = kept_on (kept_on (above3 _ b (omega (arith, P.lines))) (kept_after _ a (w + 2) s3 e4 _ b (omega arith))) (kept_before _ b (w + 2) s4 e5 _ b (omega arith));
+                above = kept_on (kept_on (above3 _ (length s) (omega (arith, P.lines, P.order))) (kept_after _ a (w + 2) s3 e4 _ (length s) (omega (arith, P.order)))) (kept_after _ b (w + 2) s4 e5 _ (length s) (omega arith));
+                a2 = run_kept a4 (kept_before _ b (w + 2) s4 e5 a b (omega arith)) (omega arith) P.order;
+                b2 = b5;
+              }

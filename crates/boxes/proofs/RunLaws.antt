@@ -6,7 +6,7 @@ use native.Mathlib.Omega.{arith}
 use lib.IntN.{ℤ, pos, nat_abs}
 use lib.ListN.{length, get_or}
 use Rattle.laws.specs.Runs.{stamp, stamp_at, stamp_before, stamp_after}
-use Rattle.laws.specs.Bounds.{Samples, samples_same}
+use Rattle.laws.specs.Bounds.{Samples, samples_part, samples_same}
 use Rattle.standard.specs.SelfGuided.{a2_of}
 use Rattle.boxes.specs.Reads.{sample_at}
 use Rattle.boxes.specs.BoxRows.{Run, Kept}
@@ -56,6 +56,13 @@ module _ (f : ℕ → ℤ) (to n : ℕ) (s : List ℤ) {t : List ℤ} (e : t ≡
 
   pub kept_after : (lo hi : ℕ) → to + n ≤ lo → Kept lo hi s t
   kept_after lo hi h = record { same = λ k u v. stamp_after f to n s t k (pos 0) e (omega arith) }
+
+  -- what the function reads there
+  pub sample_before : (k : ℕ) → k < to → sample_at t k ≡ sample_at s k
+  sample_before k h = ap nat_abs (stamp_before f to n s t k (pos 0) e h)
+
+  pub samples_before : {m lo hi : ℕ} (a b : ℕ) → Samples m lo hi s → lo ≤ a → b ≤ hi → b ≤ to → Samples m a b t
+  samples_before a b p u v h = samples_same t (samples_part a b p u v) (λ k q r. stamp_before f to n s t k (pos 0) e (omega arith))
 
 pub kept_on : {lo hi : ℕ} {s t u : List ℤ} → Kept lo hi s t → Kept lo hi t u → Kept lo hi s u
 kept_on p q = record { same = λ k u v. q.same k u v ∙ p.same k u v }

@@ -3,8 +3,7 @@ use mathlib.Core.Path.{◌≡◌, sym, ◌∙◌, ap, subst}
 use mathlib.Core.Logic.{◌⊎◌, inl, inr}
 use Prim.Native.Nat.{ℕ, zero, suc, ◌+◌, ◌-◌, ◌*◌, ◌/◌, ◌%◌, ◌^◌, ◌≤◌, ◌<◌, min}
 use native.Mathlib.Omega.{arith}
-use native.Mathlib.Nat.{mul-le-mul, mul-le-mul_right, suc-mul, div-mul-le_self, lt-div-mul-add, le-div_iff_mul-le, min-eq_left, min-eq_right, mul-div_left, pow-suc, div-lt_iff_lt-mul, le_of_suc-le-suc, mod-eq_of_lt, min-le_right, mul_assoc}
-use lib.Pow.{pow_mono}
+use native.Mathlib.Nat.{mul-le-mul, div-le_self, mul-le-mul_right, suc-mul, div-mul-le_self, lt-div-mul-add, le-div_iff_mul-le, min-eq_left, min-eq_right, mul-div_left, pow-suc, div-lt_iff_lt-mul, le_of_suc-le-suc, mod-eq_of_lt, min-le_right, mul_assoc}
 use Rattle.laws.specs.Index.{lt_or_le}
 use Rattle.laws.specs.Congruence.{ap2}
 use Rattle.standard.specs.declared.Depth.{Depth}
@@ -14,7 +13,8 @@ use Rattle.standard.specs.Depths.{bits, largest}
 use Rattle.standard.specs.SelfGuided.{area, one_over, a2_of, spread}
 use Rattle.standard.proofs.Arms.{a2_high, a2_zero, a2_middle}
 use Rattle.boxes.specs.declared.scale.Scale.{Scale}
-use Rattle.boxes.specs.Scales.{Scaled, z_of}
+use Rattle.boxes.specs.Scaled.{Scaled}
+use Rattle.boxes.specs.Scales.{z_of}
 
 pub rounded : (k x : ℕ) → (x + 2 ^ k / 2) / 2 ^ k ≡ round_ℕ k x
 unfolding round_ℕ
@@ -42,12 +42,6 @@ module _ (s top : ℕ) (low : 1 ≤ s) (high : s ≤ 13235) (is : top ≡ (26686
   top_low : 266862592 + s - 1 < top * s + s
   top_low = subst (λ (t : ℕ). 266862592 + s - 1 < t * s + s) (sym is) (lt-div-mul-add {a = 266862592 + s - 1} {b = s} low)
 
-  pub cut_high : (p : ℕ) → min p top * s ≤ 266875826
-  cut_high p = omega (arith, top_high, mul-le-mul_right s (min_low p))
-    where
-      min_low : (p : ℕ) → min p top ≤ top
-      min_low p = omega arith
-
   pub cut_is : (p : ℕ) → (min p top * s + 524288) / 1048576 ≡ min (round_ℕ 20 (p * s)) 255
   unfolding round_ℕ
   cut_is p = go (lt_or_le p top)
@@ -58,13 +52,13 @@ module _ (s top : ℕ) (low : 1 ≤ s) (high : s ≤ 13235) (is : top ≡ (26686
       go (inr h) = ap (λ (m : ℕ). (m * s + 524288) / 1048576) (min-eq_right {n = top} {m = p} h)
           ∙ omega (arith, top_high, top_low) ∙ sym (min-eq_right {n = 255} {m = (p * s + 524288) / 1048576} (omega (arith, top_low, mul-le-mul_right s h)))
 
+pub area_high : (r : ℕ) → r ≤ 2 → area r ≤ 25
+area_high r h = mul-le-mul {n₁ = 2 * r + 1} {m₁ = 2 * r + 1} {n₂ = 5} {m₂ = 5} (omega arith) (omega arith)
+
 -- s of legal numbers
 module _ (r eps : ℕ) (p : 1 ≤ r) (q : r ≤ 2) (u : 1 ≤ eps) (v : eps ≤ 75) where
-  pub area_high : area r ≤ 25
-  area_high = mul-le-mul {n₁ = 2 * r + 1} {m₁ = 2 * r + 1} {n₂ = 5} {m₂ = 5} (omega arith) (omega arith)
-
   pub area_square : area r * area r ≤ 625
-  area_square = mul-le-mul {n₁ = area r} {m₁ = area r} {n₂ = 25} {m₂ = 25} area_high area_high
+  area_square = mul-le-mul {n₁ = area r} {m₁ = area r} {n₂ = 25} {m₂ = 25} (area_high r q) (area_high r q)
 
   pub ne_high : area r * area r * eps ≤ 46875
   ne_high = mul-le-mul {n₁ = area r * area r} {m₁ = eps} {n₂ = 625} {m₂ = 75} area_square v
@@ -123,12 +117,9 @@ largest_most Ten = omega arith
 largest_most Twelve = omega arith
 
 -- ---- z of a pass's numbers
-module _ (z : Scale) (g : Scaled z) where
-  pub rb_small : z.rb ≤ 8
-  rb_small = omega (arith, g.rb_is, pow_mono {i = z.sb} {j = 4} (omega (arith, g.sb_is, bits_most z.depth)))
-
-  pub ra_small : z.ra ≤ 128
-  ra_small = omega (arith, g.ra_is, pow_mono {i = z.sa} {j = 8} (omega (arith, g.sa_is, bits_most z.depth)))
+module _ (z : Scale) where
+  g : Scaled z.depth z.s z.top z.ra z.sa z.rb z.sb
+  g = z.scaled
 
   pub sum_rounded : (b : ℕ) → (b + z.rb) / 2 ^ z.sb ≡ round_ℕ (bits z.depth - 8) b
   sum_rounded b = ap (λ (h : ℕ). (b + h) / 2 ^ z.sb) g.rb_is ∙ rounded z.sb b ∙ ap (λ (k : ℕ). round_ℕ k b) g.sb_is
@@ -144,10 +135,15 @@ module _ (z : Scale) (g : Scaled z) where
   unfolding z_of spread
   z_is n a b h = ap2 (λ (A D : ℕ). (min (A * n - D * D) z.top * z.s + 524288) / 1048576) (squares_rounded a) (sum_low b h) ∙ cut_is z.s z.top g.s_low g.s_high g.top_is _
 
-pub squares_most : (d : Depth) → 5 * (largest d * largest d) ≤ 83845125
-squares_most Eight = omega arith
-squares_most Ten = omega arith
-squares_most Twelve = omega arith
+  -- what `between` takes
+  pub top_small : z.top ≤ 266875826
+  top_small = omega (arith, g.top_is, g.s_low, g.s_high, div-le_self (266862592 + z.s - 1) z.s)
+
+  pub scaled_small : (a n : ℕ) → a ≤ 25 * (largest z.depth * largest z.depth) → n ≤ 25 → (a + z.ra) / 2 ^ z.sa * n ≤ 40940000
+  scaled_small a n p q = mul-le-mul {n₁ = (a + z.ra) / 2 ^ z.sa} {m₁ = n} {n₂ = 1637600} {m₂ = 25} (omega (arith, squares_rounded a, squares_down z.depth a p)) q
+
+  pub square_small : (b : ℕ) → b ≤ 25 * largest z.depth → (b + z.rb) / 2 ^ z.sb % 8192 * ((b + z.rb) / 2 ^ z.sb % 8192) ≤ 40947201
+  square_small b p = let h : (b + z.rb) / 2 ^ z.sb % 8192 ≤ 6399 = omega (arith, sum_low b p, sum_down z.depth b p) in mul-le-mul h h
 
 pub z_most : (z : Scale) (n a b : ℕ) → z_of z n a b ≤ 255
 unfolding z_of
@@ -163,7 +159,7 @@ pub at_most_25 : (n m : ℕ) {a : ℕ} → n ≤ 5 → a ≤ n * (5 * m) → a �
 at_most_25 n m p q = omega (arith, mul-le-mul_right (5 * m) p)
 
 -- the product under which b2 fits, for the sum of a box of radius r
-pub weigh : (r : ℕ) (d : Depth) (b : ℕ) → r ≤ 2 → b ≤ suc (2 * r) * (suc (2 * r) * largest d) → b * one_over (area r) ≤ 16789500
+pub weigh : (r : ℕ) (d : Depth) (b : ℕ) → r ≤ 2 → b ≤ (2 * r + 1) * ((2 * r + 1) * largest d) → b * one_over (area r) ≤ 16789500
 weigh zero d b h p = omega (arith, largest_most d)
 weigh (suc zero) d b h p = omega (arith, largest_most d)
 weigh (suc (suc zero)) d b h p = omega (arith, largest_most d)

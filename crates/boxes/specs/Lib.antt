@@ -1,4 +1,5 @@
 pub mod Reads
+pub mod Scaled
 pub mod Scales
 pub mod Tables
 pub mod BoxRows

@@ -7,3 +7,4 @@ pub mod samples;
 pub mod scale;
 pub mod shares;
 pub mod sums;
+pub mod table;

@@ -1,151 +1,120 @@
 // The calls of the run: stripes 3, 0, 4, 1, 2, and between them calls that are refused. Each call has a line.
-ghost use Rattle.std.specs.Prelude.{◌≤◌, length};
-
-use crate::figures::differing;
-use crate::lines::{column, print};
-use crate::picture::frame;
-use frames::number;
+use crate::figures::changed;
+use crate::picture::{UNITS, frame};
 use in_place::restore_stripe;
-use runs::copy_run;
-use standard::Stored;
+use standard::Refusal;
 use std::io;
 
-// What call k is.
-fn say(rt: &impl Print, k: usize) -> io::Result<()> {
-    match k {
-        0 => print(rt, b"stripe 3                                    "),
-        1 => print(rt, b"stripe 3 again                              "),
-        2 => print(rt, b"stripe 5, of 0 to 4                         "),
-        3 => print(rt, b"stripe 0                                    "),
-        4 => print(rt, b"stripe 1, a mark is 2                       "),
-        5 => print(rt, b"stripe 1, scratch one number short          "),
-        6 => print(rt, b"stripe 4                                    "),
-        7 => print(rt, b"stripe 1, edge rows of one boundary missing "),
-        8 => print(rt, b"stripe 1, one unit missing                  "),
-        9 => print(rt, b"stripe 1                                    "),
-        10 => print(rt, b"stripe 2, depth 9                           "),
-        _ => print(rt, b"stripe 2                                    "),
+// What is wrong with a call.
+#[derive(Clone, Copy, PartialEq, Eq)]
+enum Fault {
+    Nothing,
+    Mark,
+    Scratch,
+    EdgeRows,
+    Units,
+    Depth,
+}
+
+#[derive(Clone, Copy)]
+struct Call {
+    what: &'static str,
+    stripe: u32,
+    fault: Fault,
+}
+
+impl Call {
+    fn new(what: &'static str, stripe: u32, fault: Fault) -> Call {
+        Call {
+            what,
+            stripe,
+            fault,
+        }
     }
 }
 
-fn stripe_at(k: usize) -> u32 {
-    match k {
-        0 | 1 => 3,
-        2 => 5,
-        3 => 0,
-        6 => 4,
-        10 | 11 => 2,
-        _ => 1,
-    }
-}
-
-fn depth_at(k: usize) -> u32 {
-    if k == 10 {
-        return 9;
-    }
-    8
-}
-
-fn units_at(k: usize) -> usize
-    ensures { result ≤ 40 }
-{
-    if k == 8 {
-        return 30;
-    }
-    40
-}
-
-fn edges_at(k: usize) -> usize
-    ensures { result ≤ 192 }
-{
-    if k == 7 {
-        return 144;
-    }
-    192
-}
-
-fn scratch_at(k: usize) -> usize
-    ensures { result ≤ 8640 }
-{
-    if k == 5 {
-        return 8639;
-    }
-    8640
+// What the calls are lent.
+#[derive(Drop)]
+pub struct Lent {
+    pub plane: Vec<i32>,
+    pub edges: [i32; 192],
+    pub marks: [u8; 5],
+    pub scratch: [i32; 8640],
+    pub copy: [i32; 768],
 }
 
 // The number of an answer, 0 where the stripe is restored.
-pub fn number_of(answer: Stored) -> u32 {
-    match answer {
-        Stored::Done => 0,
-        Stored::Refused(why) => number(why),
-    }
+pub fn number_of(answer: Result<(), Refusal>) -> u32 {
+    answer.map_or_else(u32::from, |_| 0)
 }
 
-// Call k: the number of its answer.
-fn call(
-    k: usize,
-    units: &[i32],
-    edges: &[i32],
-    plane: &mut [i32],
-    marks: &mut [u8],
-    scratch: &mut [i32],
-    copy: &mut [i32],
-) -> u32
-    requires { (40 ≤ length units.now) × (192 ≤ length edges.now) × (8640 ≤ length scratch.old) }
-{
-    let f = frame(depth_at(k));
-    let s = stripe_at(k);
-    let u = &units[0..units_at(k)];
-    let e = &edges[0..edges_at(k)];
-    let room = &mut scratch[0..scratch_at(k)];
-    if k == 4 {
-        let mut odd = [0u8, 0, 2, 0, 0];
-        return number_of(restore_stripe(f, s, u, e, plane, &mut odd, room, copy));
+// The number of a call's answer.
+fn answer(call: &Call, lent: &mut Lent) -> u32 {
+    let f = frame(if call.fault == Fault::Depth { 9 } else { 8 });
+    let units = if call.fault == Fault::Units { 30 } else { 40 };
+    let edges = if call.fault == Fault::EdgeRows {
+        144
+    } else {
+        192
+    };
+    let scratch = if call.fault == Fault::Scratch {
+        8639
+    } else {
+        8640
+    };
+    let mut marks = if call.fault == Fault::Mark {
+        [0, 0, 2, 0, 0]
+    } else {
+        lent.marks
+    };
+    let room = &mut lent.scratch[..];
+    let answer = restore_stripe(
+        f,
+        call.stripe,
+        &UNITS[..units],
+        &lent.edges[..edges],
+        &mut lent.plane,
+        &mut marks,
+        &mut room[..scratch],
+        &mut lent.copy,
+    );
+    if call.fault != Fault::Mark {
+        lent.marks = marks;
     }
-    number_of(restore_stripe(f, s, u, e, plane, marks, room, copy))
+    number_of(answer)
 }
 
-// Call k and its line: what it is, its answer, and how many samples of the plane it changes.
-fn shown(
-    rt: &impl Print,
-    k: usize,
-    units: &[i32],
-    edges: &[i32],
-    plane: &mut [i32],
-    before: &mut [i32],
-    marks: &mut [u8],
-    scratch: &mut [i32],
-    copy: &mut [i32],
-) -> io::Result<()>
-    requires in_bounds { (40 ≤ length units.now) × (192 ≤ length edges.now) × (8640 ≤ length scratch.old) }
-    requires in_bounds_2 { (3168 ≤ length plane.old) × (3168 ≤ length before.old) }
-{
-    copy_run(before, 0, plane, 0, 3168);
-    say(rt, k)?;
-    let answer = call(k, units, edges, plane, marks, scratch, copy);
-    column(rt, answer as usize)?;
-    column(rt, differing(plane, before, 0, 3168))?;
-    print(rt, b"\n")
+// A call and its line: what it is, its answer, and how many samples of the plane it changes.
+fn shown(rt: &(impl Print + AllocGlobal), call: &Call, lent: &mut Lent) -> io::Result<()> {
+    let before = lent.plane.clone()?;
+    let what = call.what;
+    let answer = answer(call, lent);
+    let changed = changed(&lent.plane, &before);
+    println!(rt; "{what:<44}{answer:>13}{changed:>13}")
 }
 
 // The calls, in their order.
-pub fn run(
-    rt: &impl Print,
-    units: &[i32],
-    edges: &[i32],
-    plane: &mut [i32],
-    before: &mut [i32],
-    marks: &mut [u8],
-    scratch: &mut [i32],
-    copy: &mut [i32],
-) -> io::Result<()>
-    requires in_bounds { (40 ≤ length units.now) × (192 ≤ length edges.now) × (8640 ≤ length scratch.old) }
-    requires in_bounds_2 { (3168 ≤ length plane.old) × (3168 ≤ length before.old) }
-{
-    let mut k = 0;
-    while k < 12 {
-        shown(rt, k, units, edges, plane, before, marks, scratch, copy)?;
-        k += 1;
+pub fn run(rt: &(impl Print + AllocGlobal), lent: &mut Lent) -> io::Result<()> {
+    let calls = [
+        Call::new("stripe 3", 3, Fault::Nothing),
+        Call::new("stripe 3 again", 3, Fault::Nothing),
+        Call::new("stripe 5, of 0 to 4", 5, Fault::Nothing),
+        Call::new("stripe 0", 0, Fault::Nothing),
+        Call::new("stripe 1, a mark is 2", 1, Fault::Mark),
+        Call::new("stripe 1, scratch one number short", 1, Fault::Scratch),
+        Call::new("stripe 4", 4, Fault::Nothing),
+        Call::new(
+            "stripe 1, edge rows of one boundary missing",
+            1,
+            Fault::EdgeRows,
+        ),
+        Call::new("stripe 1, one unit missing", 1, Fault::Units),
+        Call::new("stripe 1", 1, Fault::Nothing),
+        Call::new("stripe 2, depth 9", 2, Fault::Depth),
+        Call::new("stripe 2", 2, Fault::Nothing),
+    ];
+    for call in &calls {
+        shown(rt, call, lent)?;
     }
     Ok(())
 }

@@ -1,101 +1,45 @@
-// Figures of the run: how many samples differ or are overwritten, and how far apart they are.
-ghost use Rattle.std.specs.Prelude.{◌≤◌, length};
-
+// Figures of the run: which samples differ or are overwritten, and how far apart they are.
 use crate::picture::overwritten;
-use fetch::least;
+use std::alloc::{AllocError, Global};
 
-fn unequal(a: i32, b: i32) -> usize
-    ensures { result ≤ 1 }
-{
-    if a == b {
-        return 0;
-    }
-    1
+// The samples in which two planes differ.
+pub fn changed(a: &[i32], b: &[i32]) -> usize {
+    a.iter().zip(b).filter(|(x, y)| *x != *y).count()
 }
 
 // The places from .. end at which two planes differ.
-pub fn differing(a: &[i32], b: &[i32], from: usize, end: usize) -> usize
-    requires { (end ≤ length a.now) × (end ≤ length b.now) }
-{
-    let mut count = 0;
-    let mut k = from;
-    while k < end {
-        count += unequal(a[k], b[k]);
-        k += 1;
-    }
-    count
-}
-
-fn one_if(yes: bool) -> usize
-    ensures { result ≤ 1 }
-{
-    if yes {
-        return 1;
-    }
-    0
+pub fn differing(
+    alloc: Global,
+    a: &[i32],
+    b: &[i32],
+    from: usize,
+    end: usize,
+) -> Result<Vec<usize>, AllocError> {
+    a.iter()
+        .zip(b)
+        .enumerate()
+        .take(end)
+        .skip(from)
+        .filter(|(_, (x, y))| *x != *y)
+        .map(|(k, _)| k)
+        .collect(alloc)
 }
 
 // The overwritten places of from .. end.
-pub fn damage_in(from: usize, end: usize) -> usize {
-    let mut count = 0;
-    let mut k = from;
-    while k < end {
-        count += one_if(overwritten(k));
-        k += 1;
-    }
-    count
+pub fn damage(alloc: Global, from: usize, end: usize) -> Result<Vec<usize>, AllocError> {
+    (from..end).filter(|k| overwritten(*k)).collect(alloc)
 }
 
-fn apart(a: usize, b: usize) -> usize {
-    if a < b {
-        return b - a;
-    }
-    a - b
-}
-
-fn largest(a: usize, b: usize) -> usize {
-    if a < b {
-        return b;
-    }
-    a
-}
-
-// From place k to the overwritten place j, in rows or columns, whichever is more; 999 where j is not overwritten.
+// From one place to another, in rows or columns, whichever is more.
 fn gap(k: usize, j: usize) -> usize {
-    if overwritten(j) {
-        return largest(apart(k / 12, j / 12), apart(k % 12, j % 12));
-    }
-    999
+    (k / 12).abs_diff(j / 12).max((k % 12).abs_diff(j % 12))
 }
 
-// From place k to the nearest overwritten place of from .. end.
-fn nearest(k: usize, from: usize, end: usize) -> usize {
-    let mut near = 999;
-    let mut j = from;
-    while j < end {
-        near = least(near, gap(k, j));
-        j += 1;
-    }
-    near
+fn nearest(k: usize, damage: &[usize]) -> Option<usize> {
+    damage.iter().map(|j| gap(k, *j)).min()
 }
 
-// The same where the two samples of place k differ, else 0.
-fn reach(a: i32, b: i32, k: usize, from: usize, end: usize) -> usize {
-    if a == b {
-        return 0;
-    }
-    nearest(k, from, end)
-}
-
-// The farthest that a differing sample of from .. end is from the nearest overwritten one there.
-pub fn farthest(a: &[i32], b: &[i32], from: usize, end: usize) -> usize
-    requires { (end ≤ length a.now) × (end ≤ length b.now) }
-{
-    let mut far = 0;
-    let mut k = from;
-    while k < end {
-        far = largest(far, reach(a[k], b[k], k, from, end));
-        k += 1;
-    }
-    far
+// The farthest that a differing sample is from the nearest overwritten one; None where no sample differs.
+pub fn farthest(differing: &[usize], damage: &[usize]) -> Option<usize> {
+    differing.iter().filter_map(|k| nearest(*k, damage)).max()
 }

@@ -1,7 +1,11 @@
 // What the run is made of: a plane of 12 columns and 264 rows of 8 bits, so five stripes and four unit rows. Places go row after row.
-ghost use Rattle.std.specs.Prelude.{◌<◌, ◌≤◌, length};
+ghost use Rattle.std.specs.Prelude.{◌<◌};
 
 use standard::Frame;
+use std::alloc::{AllocError, Global};
+
+// The samples of the plane.
+pub const SAMPLES: usize = 3168;
 
 // The units from the top, ten numbers each.
 pub const UNITS: [i32; 40] = [
@@ -28,73 +32,43 @@ pub fn frame(depth: u32) -> Frame {
     }
 }
 
-fn deblocked(k: usize) -> usize
-    requires { k < 3168 }
+// The sample of the deblocked plane.
+fn deblocked_at(k: usize) -> usize
     ensures { result < 240 }
 {
     (k / 12 + 5 * (k % 12) + 3 * (k % 7)) % 240
 }
 
-// The sample of the deblocked plane, or of the CDEF plane, which is near it.
-pub fn sample(k: usize, cdef: bool) -> usize
-    requires { k < 3168 }
+// The sample of the CDEF plane, which is near it.
+fn cdef_at(k: usize) -> usize
     ensures { result < 256 }
 {
-    let d = deblocked(k);
-    if cdef {
-        return d + 3 * (k % 5);
-    }
-    d
+    deblocked_at(k) + 3 * (k % 5)
 }
 
 // In stripe 1 its first row, a sample in its middle and its last; in stripe 3 its first sample and its last row.
 pub fn overwritten(k: usize) -> bool {
-    let row = k / 12;
-    let col = k % 12;
-    if row == 56 {
-        return true;
-    }
-    if row == 90 {
-        return col == 6;
-    }
-    if row == 119 {
-        return col == 11;
-    }
-    if row == 184 {
-        return col == 0;
-    }
-    row == 247
+    matches!(
+        (k / 12, k % 12),
+        (56 | 247, _) | (90, 6) | (119, 11) | (184, 0)
+    )
 }
 
-// A whole plane.
-pub fn draw(plane: &mut [i32], cdef: bool)
-    requires { 3168 ≤ length plane.old }
-{
-    let mut k = 0;
-    while k < 3168 {
-        plane[k] = sample(k, cdef) as i32;
-        k += 1;
-    }
+pub fn deblocked(alloc: Global) -> Result<Vec<i32>, AllocError> {
+    (0..SAMPLES).map(|k| deblocked_at(k) as i32).collect(alloc)
+}
+
+pub fn cdef(alloc: Global) -> Result<Vec<i32>, AllocError> {
+    (0..SAMPLES).map(|k| cdef_at(k) as i32).collect(alloc)
 }
 
 // The sample of the damaged CDEF plane: 255 less the sample is always another one.
-fn damaged(k: usize) -> i32
-    requires { k < 3168 }
-{
-    let s = sample(k, true);
-    if overwritten(k) {
-        return (255 - s) as i32;
-    }
-    s as i32
+fn damaged_at(k: usize) -> i32 {
+    let s = cdef_at(k) as i32;
+    if overwritten(k) { 255 - s } else { s }
 }
 
 // The CDEF plane, with samples of stripes 1 and 3 overwritten.
-pub fn damage(plane: &mut [i32])
-    requires { 3168 ≤ length plane.old }
-{
-    let mut k = 0;
-    while k < 3168 {
-        plane[k] = damaged(k);
-        k += 1;
-    }
+pub fn damaged(alloc: Global) -> Result<Vec<i32>, AllocError> {
+    (0..SAMPLES).map(damaged_at).collect(alloc)
 }

@@ -1,11 +1,11 @@
 -- The number that each test of capture gives, where earlier ones have answered; and what is known where none gives one.
-use mathlib.Core.Path.{◌≡◌, sym, ◌∙◌, ap}
+use mathlib.Core.Path.{◌≡◌, sym, ◌∙◌}
 use mathlib.Core.Bool.{true, false}
-use mathlib.Core.List.{List}
-use Prim.Native.Nat.{ℕ, ◌*◌, ◌-◌, ◌<◌, ◌≤◌}
+use mathlib.Core.List.{List, [], ◌∷◌}
+use Prim.Native.Nat.{ℕ, ◌*◌, ◌-◌, ◌≤◌}
 use native.Mathlib.Omega.{arith}
-use borrow.Author.Tests.{eq-eqb, ne_eqb, eqb-true, not-false, lt-ltb, le-ltb}
-use lib.Dec.{eqb, ltb}
+use borrow.Author.Tests.{eq-eqb, ne_eqb, eqb-true, not-false}
+use lib.Dec.{eqb}
 use lib.IntN.{ℤ}
 use lib.ListN.{length}
 use Rattle.laws.specs.Tests.{or_no}
@@ -16,10 +16,9 @@ use Rattle.standard.proofs.Answers.{refusal_back}
 use Rattle.standard.specs.Stripes.{stripes}
 use Rattle.standard.specs.Planes.{captured_slice}
 use Rattle.standard.specs.Calls.{capture_edges}
-use Rattle.standard.specs.Refusals.{first, no1, no2, no4, no9, no15, capture_tests, sub_y_of, plane_height, plane_width, samples}
-use Rattle.standard.proofs.Refusals.{capture_table}
-use Rattle.frames.proofs.Legal.{LegalFrame, legal_frame}
-use Rattle.units.specs.First.{first_outside, no15_first}
+use Rattle.standard.specs.Refusals.{first, frame2, frame4, no1, no2, no4, no9, no15, capture_tests, sub_y_of, plane_height, plane_width, samples}
+use Rattle.standard.proofs.Refusals.{capture_table, first_past}
+use Rattle.frames.proofs.Legal.{LegalFrame, given_first, legal_frame}
 
 module _ (f : Frame) (D : List ℤ) (edge : ℕ) where
   pub gives_1 : no1 f.depth ≡ true → 1 ≡ first (capture_tests f D edge)
@@ -27,20 +26,12 @@ module _ (f : Frame) (D : List ℤ) (edge : ℕ) where
   gives_1 e = rw e
 
   module _ (e1 : no1 f.depth ≡ false) where
-    pub gives_2 : no2 f.plane f.sub_x f.sub_y ≡ true → 2 ≡ first (capture_tests f D edge)
-    unfolding capture_tests first
-    gives_2 e = rw (e1, e)
+    pub gives_2_4 : (n : ℕ) → 1 ≤ n → n ≡ first (frame2 f ∷ frame4 f ∷ []) → n ≡ first (capture_tests f D edge)
+    unfolding capture_tests
+    gives_2_4 n p e = given_first f n _ p e ∙ sym (first_past 1 (no1 f.depth) _ e1)
 
     module _ (e2 : no2 f.plane f.sub_x f.sub_y ≡ false) where
-      pub gives_4 : no4 f.frame_height ≡ true → 4 ≡ first (capture_tests f D edge)
-      unfolding capture_tests first
-      gives_4 e = rw (e1, e2, e)
-
       module _ (eh : no4 f.frame_height ≡ false) where
-        pub gives_4_wide : no4 f.upscaled_width ≡ true → 4 ≡ first (capture_tests f D edge)
-        unfolding capture_tests first
-        gives_4_wide e = rw (e1, e2, eh, e)
-
         module _ (ew : no4 f.upscaled_width ≡ false) where
           pub gives_7 : (length D ≡ samples f → ⊥) → 7 ≡ first (capture_tests f D edge)
           unfolding capture_tests first
@@ -59,13 +50,6 @@ module _ (f : Frame) (D : List ℤ) (edge : ℕ) where
               pub gives_0 : no15 f.depth D ≡ false → 0 ≡ first (capture_tests f D edge)
               unfolding capture_tests first no9
               gives_0 e = rw (e1, e2, eh, ew, eq-eqb (length D) (samples f) e7, eq-eqb edge (4 * plane_width f * (stripes (sub_y_of f) (plane_height f) - 1)) e9, e)
-
--- ---- the first sample out of range, against the slice's length
-pub outside : (depth : ℕ) (D : List ℤ) (r : ℕ) → r ≡ first_outside depth D → r < length D → no15 depth D ≡ true
-outside depth D r e h = no15_first depth D ∙ ap (λ k. ltb k (length D)) (sym e) ∙ lt-ltb r (length D) h
-
-pub inside : (depth : ℕ) (D : List ℤ) (r : ℕ) → r ≡ first_outside depth D → length D ≤ r → no15 depth D ≡ false
-inside depth D r e h = no15_first depth D ∙ ap (λ k. ltb k (length D)) (sym e) ∙ le-ltb r (length D) h
 
 -- ---- where no number is given
 pub record Passed (f : Frame) (D : List ℤ) (edge : ℕ) : Type 0 where

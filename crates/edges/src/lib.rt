@@ -11,31 +11,29 @@ ghost use Rattle.standard.specs.Refusals.{capture_tests, first};
 
 use crate::rows::capture_rows;
 use crate::tests::capture_tests;
-use frames::{extent, sub_of};
-use standard::{Frame, Stored};
+use frames::plane::Plane;
+use standard::{Frame, Refusal};
 
 // Captures the edge rows of a deblocked plane; a refused call leaves the slice as it was.
-pub fn capture_edges(f: Frame, deblocked: &[i32], edges: &mut [i32]) -> Stored
+pub fn capture_edges(f: Frame, deblocked: &[i32], edges: &mut [i32]) -> Result<(), Refusal>
     ensures result_value { of_stored result ≡ first (capture_tests f deblocked.now (length edges.old)) }
     ensures edges_after { edges.new ≡ capture_edges f deblocked.now edges.old }
 {
-    let t = capture_tests(f, deblocked, edges.len());
-    match t {
-        Stored::Refused(why) => Stored::Refused(why),
-        Stored::Done => {
-            captured(f, deblocked, edges);
-            Stored::Done
-        }
-    }
+    let p = capture_tests(f, deblocked, edges.len())?;
+    captured(p, deblocked, edges);
+    Ok(())
 }
 
 // The rows, once no number is given.
-fn captured(f: Frame, deblocked: &[i32], edges: &mut [i32])
-    requires { first (capture_tests f deblocked.now (length edges.old)) ≡ 0 }
-    ensures { edges.new ≡ capture_edges f deblocked.now edges.old }
+fn captured(p: Plane, deblocked: &[i32], edges: &mut [i32])
+    requires { first (capture_tests p.frame deblocked.now (length edges.old)) ≡ 0 }
+    ensures { edges.new ≡ capture_edges p.frame deblocked.now edges.old }
 {
-    let h = extent(f.plane, f.sub_y, f.frame_height);
-    let w = extent(f.plane, f.sub_x, f.upscaled_width);
-    let own = sub_of(f.plane, f.sub_y);
-    capture_rows(edges, deblocked, own, h as usize, w as usize);
+    capture_rows(
+        edges,
+        deblocked,
+        p.sub_y(),
+        p.height() as usize,
+        p.width() as usize,
+    );
 }

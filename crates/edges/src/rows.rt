@@ -3,7 +3,7 @@ ghost use Rattle.std.specs.Prelude.{◌≡◌, ◌+◌, ◌-◌, ◌*◌, ◌/�
 ghost use Rattle.standard.specs.Stripes as defined;
 ghost use Rattle.standard.specs.Planes as planes;
 
-use fetch::{least, row_of};
+use fetch::row_of;
 use geometry::stripes::{stripe_start, stripes};
 use runs::copy_run;
 
@@ -13,7 +13,7 @@ fn edge_row(sub_y: u32, h: usize, s: u32, k: usize) -> usize
     ensures { result ≡ planes.edge_row sub_y h s k }
 {
     let b = stripe_start(sub_y, s) as usize;
-    least(b + k - 2, h - 1)
+    (b + k - 2).min(h - 1)
 }
 
 // Boundary after boundary, row after row.
@@ -23,39 +23,34 @@ pub fn capture_rows(edges: &mut [i32], deblocked: &[i32], sub_y: u32, h: usize, 
     ensures { edges.new ≡ planes.captured_slice sub_y h w deblocked.now }
 {
     let n = 4 * (stripes(sub_y, h as u32) - 1);
-    let mut k: u32 = 0;
-    while k < n {
+    for k in 0..n {
         let y = edge_row(sub_y, h, k / 4 + 1, (k % 4) as usize);
         copy_run(edges, (k as usize) * w, deblocked, y * w, w);
-        k += 1;
     }
 }
 
 // The two rows above stripe s: no samples where that boundary does not exist.
+#[tactic(auto, unfolding(standard::specs::Planes::above))]
 pub fn above(edges: &[i32], sub_y: u32, h: usize, w: usize, s: u32) -> &[i32]
     requires { (sub_y ≤ 1) × (0 < h) × (h ≤ 16384) × (w ≤ 16384) × (length edges.now ≡ 4 * w * (defined.stripes sub_y h - 1)) }
     ensures { result.now ≡ planes.above sub_y h w edges.now s }
 {
-    if s == 0 {
-        return &edges[0..0];
-    }
-    if stripes(sub_y, h as u32) <= s {
-        return &edges[0..0];
+    if s == 0 || stripes(sub_y, h as u32) <= s {
+        return &edges[..0];
     }
     let a = 4 * w * ((s - 1) as usize);
-    let e = a + 2 * w;
-    &edges[a..e]
+    &edges[a..a + 2 * w]
 }
 
 // The two rows below stripe s: no samples where that boundary does not exist.
+#[tactic(auto, using(crate::proofs::Laws::some_stripe), unfolding(standard::specs::Planes::below))]
 pub fn below(edges: &[i32], sub_y: u32, h: usize, w: usize, s: u32) -> &[i32]
     requires { (sub_y ≤ 1) × (0 < h) × (h ≤ 16384) × (w ≤ 16384) × (length edges.now ≡ 4 * w * (defined.stripes sub_y h - 1)) }
     ensures { result.now ≡ planes.below sub_y h w edges.now s }
 {
     if stripes(sub_y, h as u32) - 1 <= s {
-        return &edges[0..0];
+        return &edges[..0];
     }
     let a = 4 * w * (s as usize) + 2 * w;
-    let e = a + 2 * w;
-    &edges[a..e]
+    &edges[a..a + 2 * w]
 }

@@ -1,51 +1,51 @@
 // The refusals of capture: 1, 2, 4, 7, 9, 15, the lowest that applies.
-ghost use Rattle.std.specs.Prelude.{◌≡◌, length, false};
+ghost use Rattle.std.specs.Prelude.{◌≡◌, ◌-◌, ◌*◌, length, false, IfOk};
 ghost use Rattle.standard.specs.Answers.{of_stored};
-ghost use Rattle.standard.specs.Refusals.{capture_tests, first, no1, no2, no4};
+ghost use Rattle.standard.specs.Refusals.{capture_tests, first, no1, plane_height, plane_width, sub_y_of};
+ghost use Rattle.standard.specs.Stripes as defined;
+ghost use Rattle.frames.specs.Numbers.{number_of};
 
-use frames::{bad_depth, bad_plane, bad_side, extent, sub_of};
+use frames::bad_depth;
+use frames::plane::{Plane, plane_of};
 use geometry::stripes::stripes;
-use standard::{Frame, Refusal, Stored};
-use units::samples::first_outside;
+use standard::{Frame, Refusal};
+use units::samples::out_of_range;
 
-pub fn capture_tests(f: Frame, deblocked: &[i32], edges: usize) -> Stored
-    ensures { of_stored result ≡ first (capture_tests f deblocked.now edges) }
+// How many samples the edge rows of a plane have: four rows for each boundary.
+pub fn edge_room(p: Plane) -> usize
+    ensures { result ≡ 4 * plane_width p.frame * (defined.stripes (sub_y_of p.frame) (plane_height p.frame) - 1) }
 {
-    let depth = bad_depth(f.depth);
-    let plane = bad_plane(f.plane, f.sub_x, f.sub_y);
-    let high = bad_side(f.frame_height);
-    let wide = bad_side(f.upscaled_width);
-    if depth {
-        return Stored::Refused(Refusal::BadDepth);
+    let n = stripes(p.sub_y(), p.height()) as usize;
+    4 * p.width() as usize * (n - 1)
+}
+
+// The plane that is captured, where no number is given.
+pub fn capture_tests(f: Frame, deblocked: &[i32], edges: usize) -> Result<Plane, Refusal>
+    ensures number { number_of result ≡ first (capture_tests f deblocked.now edges) }
+    ensures passed { IfOk result (λ p. p.frame ≡ f) }
+{
+    if bad_depth(f.depth) {
+        return Err(Refusal::BadDepth);
     }
-    if plane {
-        return Stored::Refused(Refusal::BadPlane);
-    }
-    if high {
-        return Stored::Refused(Refusal::BadFrameSide);
-    }
-    if wide {
-        return Stored::Refused(Refusal::BadFrameSide);
-    }
-    slice_tests(f, deblocked, edges)
+    let p = plane_of(f)?;
+    slice_tests(p, deblocked, edges)?;
+    Ok(p)
 }
 
 // What is left once the frame's numbers are legal: 7, 9, 15.
-fn slice_tests(f: Frame, deblocked: &[i32], edges: usize) -> Stored
-    requires { (no1 f.depth ≡ false) × (no2 f.plane f.sub_x f.sub_y ≡ false) × (no4 f.frame_height ≡ false) × (no4 f.upscaled_width ≡ false) }
-    ensures { of_stored result ≡ first (capture_tests f deblocked.now edges) }
+// Stays: no plainer. Number 1 is asked of by 15 alone, and a struct over `Plane` for it would put one more field before each number of the frame.
+fn slice_tests(p: Plane, deblocked: &[i32], edges: usize) -> Result<(), Refusal>
+    requires { no1 p.frame.depth ≡ false }
+    ensures { of_stored result ≡ first (capture_tests p.frame deblocked.now edges) }
 {
-    let h = extent(f.plane, f.sub_y, f.frame_height) as usize;
-    let w = extent(f.plane, f.sub_x, f.upscaled_width) as usize;
-    let n = stripes(sub_of(f.plane, f.sub_y), h as u32) as usize;
-    if deblocked.len() != h * w {
-        return Stored::Refused(Refusal::BadShape);
+    if deblocked.len() != p.samples() {
+        return Err(Refusal::BadShape);
     }
-    if edges != 4 * w * (n - 1) {
-        return Stored::Refused(Refusal::BadEdgeRows);
+    if edges != edge_room(p) {
+        return Err(Refusal::BadEdgeRows);
     }
-    if first_outside(deblocked, f.depth) < deblocked.len() {
-        return Stored::Refused(Refusal::BadSample);
+    if out_of_range(deblocked, p.frame.depth) {
+        return Err(Refusal::BadSample);
     }
-    Stored::Done
+    Ok(())
 }

@@ -1,7 +1,7 @@
 // The fetch: one row of the plane as a stripe reads it, handed out of one of two lent slices, and windows gathered from such rows.
 #![tactic(auto)]
 
-ghost use Rattle.std.specs.Prelude.{◌≡◌, ◌+◌, ◌-◌, ◌*◌, ◌≤◌, ◌<◌, min, pos, length, get_or};
+ghost use Rattle.std.specs.Prelude.{◌≡◌, ◌+◌, ◌-◌, ◌*◌, ◌≤◌, ◌<◌, pos, length, get_or};
 ghost use Rattle.laws.specs.Runs.{stamp};
 ghost use Rattle.laws.specs.Rows.{rows};
 ghost use Rattle.laws.specs.Paint.{paint};
@@ -23,16 +23,18 @@ pub struct Source {
 }
 
 // Row k of s, w samples long.
+#[tactic(auto, unfolding(crate::specs::Source::row_of))]
 pub fn row_of(s: &[i32], w: usize, k: usize) -> &[i32]
     requires { k * w + w ≤ length s.now }
     ensures { result.now ≡ row_of s.now w k }
 {
     let a = k * w;
-    let e = a + w;
-    &s[a..e]
+    &s[a..a + w]
 }
 
 // Row y of the plane as the stripe reads it: its own rows are in `inside`, those beside it in `beside`.
+// Stays: docs/DECISIONS.md names this form; `row` of `rectangle`'s View calls it.
+#[tactic(auto, unfolding(crate::specs::Source::source_row))]
 pub fn source_row<'a>(
     inside: &'a [i32],
     beside: &'a [i32],
@@ -45,41 +47,13 @@ pub fn source_row<'a>(
     requires y_lt_h { (y < h) × (y ≤ 16384) × (r.over ≤ 20000) × (r.inside ≤ 20000) × (r.under ≤ 20000) }
     ensures { result.now ≡ source_row inside.now beside.now w r y }
 {
-    let start = r.start;
-    let stop = r.stop;
-    let over = r.over;
-    let first = r.inside;
-    let under = r.under;
-    if y < start {
-        let k = over_place(y, start);
-        return row_of(beside, w, over + k);
+    if y < r.start {
+        row_of(beside, w, r.over + (y + 2).saturating_sub(r.start))
+    } else if y < r.stop {
+        row_of(inside, w, r.inside + (y - r.start))
+    } else {
+        row_of(beside, w, r.under + (y - r.stop).min(1))
     }
-    if y < stop {
-        return row_of(inside, w, first + (y - start));
-    }
-    let k = least(y - stop, 1);
-    row_of(beside, w, under + k)
-}
-
-// Which of the two rows above a stripe stands for row y.
-fn over_place(y: usize, start: usize) -> usize
-    requires { y ≤ 16384 }
-    ensures { result ≡ y + 2 - start }
-{
-    if y + 2 < start {
-        return 0;
-    }
-    y + 2 - start
-}
-
-// The smaller of two numbers.
-pub fn least(a: usize, b: usize) -> usize
-    ensures { result ≡ min a b }
-{
-    if a < b {
-        return a;
-    }
-    b
 }
 
 // Place k of a window round y, clamped to an extent.
@@ -87,20 +61,7 @@ pub fn near(extent: usize, y: usize, k: usize) -> usize
     requires { (0 < extent) × (y ≤ 20000) × (k ≤ 20000) }
     ensures { result ≡ standard_fetch.near extent y k }
 {
-    if y + k < 3 {
-        return 0;
-    }
-    least(y + k - 3, extent - 1)
-}
-
-// Columns of a window at x0 − 3 that lie left of the plane.
-fn lead(x0: usize) -> usize
-    ensures { result ≡ 3 - x0 }
-{
-    if x0 < 3 {
-        return 3 - x0;
-    }
-    0
+    (y + k).saturating_sub(3).min(extent - 1)
 }
 
 // Three runs of a row: a columns left of the plane, b from `at` on, the rest right of it.
@@ -115,10 +76,10 @@ fn split_row(x0: usize, w: usize, n: usize) -> Three
     requires { (0 < w) × (x0 ≤ 16384) × (n ≤ 400) × (w ≤ 16384) }
     ensures { Runs n x0 w result.a result.at result.b }
 {
-    let a = least(n, lead(x0));
+    let a = n.min(3usize.saturating_sub(x0));
     let at = near(w, x0 + a, 0);
-    let b = least(n - a, w - at);
-    Three { a: a, at: at, b: b }
+    let b = (n - a).min(w - at);
+    Three { a, at, b }
 }
 
 // n samples of a row from column x0 − 3 on, columns clamped: the middle is copied without a clamp for each sample.
@@ -127,16 +88,15 @@ pub fn gather_row(dst: &mut [i32], to: usize, row: &[i32], x0: usize, n: usize)
     ensures { dst.new ≡ stamp (λ k. get_or row.now (standard_fetch.near (length row.now) x0 k) (pos 0)) to n dst.old }
 {
     let w = row.len();
-    let t = split_row(x0, w, n);
-    let a = t.a;
-    let at = t.at;
-    let b = t.b;
-    repeat_run(dst, to, row, 0, a);
+    let Three { a, at, b } = split_row(x0, w, n);
+    repeat_run(dst, to, row[0], a);
     copy_run(dst, to + a, row, at, b);
-    repeat_run(dst, to + a + b, row, w - 1, n - a - b);
+    repeat_run(dst, to + a + b, row[w - 1], n - a - b);
 }
 
 // The window of a rectangle at (x0, y0): n rows of m samples from (x0 − 3, y0 − 3) on, rows by the fetch, columns clamped.
+// Stays: it asks less than a View holds, rows of any numbers (what may not change); `gather` of `rectangle`'s View calls it.
+#[tactic(auto, using(laws::specs::Index::row_le))]
 pub fn gather<'a>(
     dst: &mut [i32],
     inside: &'a [i32],
@@ -154,33 +114,30 @@ pub fn gather<'a>(
     requires reach { Reach inside.now beside.now w h r × (r.over ≤ 20000) × (r.inside ≤ 20000) × (r.under ≤ 20000) }
     ensures { dst.new ≡ rows (λ k j. get_or (source_row inside.now beside.now w r (standard_fetch.near h y0 k)) (standard_fetch.near w x0 j) (pos 0)) 0 m m n dst.old }
 {
-    let mut k = 0;
-    while k < n {
+    for k in 0..n {
         let y = near(h, y0, k);
         let row = source_row(inside, beside, w, h, r, y);
         gather_row(dst, k * m, row, x0, m);
-        k += 1;
     }
 }
 
-// The rectangle (x0, y0, rw, rh) of a plane w wide, copied from a slice whose row `at` holds the rectangle's first row.
-pub fn copy_rect(
-    out: &mut [i32],
-    src: &[i32],
-    at: usize,
-    w: usize,
-    x0: usize,
-    y0: usize,
-    rw: usize,
-    rh: usize,
-)
-    requires rw_bound { (x0 + rw ≤ w) × ((y0 + rh) * w ≤ length out.old) × ((at + rh) * w ≤ length src.now) }
-    requires w_bound { (w ≤ 16384) × (y0 + rh ≤ 16384) × (at + rh ≤ 65536) }
-    ensures { out.new ≡ rows (λ y x. get_or src.now ((at + y) * w + (x0 + x)) (pos 0)) (y0 * w + x0) w rw rh out.old }
+// A rectangle of a plane: w columns from x on, h rows from y on.
+#[derive(Clone, Copy)]
+pub struct Rect {
+    pub x: usize,
+    pub y: usize,
+    pub w: usize,
+    pub h: usize,
+}
+
+// A rectangle of a plane w wide, copied from a slice whose row `at` holds the rectangle's first row.
+#[tactic(auto, using(laws::specs::Index::row_le))]
+pub fn copy_rect(out: &mut [i32], src: &[i32], at: usize, w: usize, r: Rect)
+    requires rw_bound { (r.x + r.w ≤ w) × ((r.y + r.h) * w ≤ length out.old) × ((at + r.h) * w ≤ length src.now) }
+    requires w_bound { (w ≤ 16384) × (r.y + r.h ≤ 16384) × (at + r.h ≤ 65536) }
+    ensures { out.new ≡ rows (λ y x. get_or src.now ((at + y) * w + (r.x + x)) (pos 0)) (r.y * w + r.x) w r.w r.h out.old }
 {
-    let mut y = 0;
-    while y < rh {
-        copy_run(out, (y0 + y) * w + x0, src, (at + y) * w + x0, rw);
-        y += 1;
+    for y in 0..r.h {
+        copy_run(out, (r.y + y) * w + r.x, src, (at + y) * w + r.x, r.w);
     }
 }

@@ -5,7 +5,7 @@ use mathlib.Core.Logic.{◌⊎◌, inl, inr}
 use Prim.Native.Nat.{ℕ, zero, suc, ◌+◌, ◌-◌, ◌*◌, ◌/◌, ◌%◌, ◌^◌, ◌≤◌, ◌<◌, min}
 use native.Mathlib.Omega.{arith}
 use native.Mathlib.Numerals.{add-one}
-use native.Mathlib.Nat.{le-div_iff_mul-le, div-le_self, div-lt_iff_lt-mul, zero-div, mod-lt, mul-le-mul, eq-or-lt_of_le, suc-mul}
+use native.Mathlib.Nat.{le-div_iff_mul-le, div-le_self, div-lt_iff_lt-mul, mod-lt, mul-le-mul, eq-or-lt_of_le, suc-mul}
 use lib.Dec.{eqb}
 use lib.IntN.{ℤ, pos, nat_abs, ◌-ℤ◌}
 use Rattle.laws.specs.Sizes.{abs_sub, abs_shr_le}
@@ -24,10 +24,6 @@ pub luma_kept : (sy row : ℕ) → sy ≤ 1 → row ≤ 65535 → (row * 2 ^ sy 
 luma_kept zero row h k = (omega arith, omega arith)
 luma_kept (suc zero) row h k = (omega arith, omega arith)
 luma_kept (suc (suc sy)) row h k = absurd (omega arith)
-
-pub start_none : (sy s : ℕ) → s ≡ 0 → 0 ≡ stripe_start sy s
-unfolding stripe_start
-start_none sy s e = rw (e, zero-div (2 ^ sy))
 
 pub stripes_small : (sy h : ℕ) → sy ≤ 1 → h ≤ 65535 → stripes sy h ≤ 2049
 unfolding stripes stripe_of

@@ -7,43 +7,38 @@ use native.Mathlib.Omega.{arith}
 use lib.Dec.{leb}
 use borrow.Author.Tests.{ne_eqb}
 use Rattle.laws.specs.Tests.{or_no}
-use Rattle.frames.proofs.Legal.{legal_frame}
+use Rattle.frames.proofs.Legal.{given_first, legal_frame, passed_first}
+use Rattle.frames.specs.declared.plane.Plane.{Plane}
+use Rattle.geometry.specs.declared.planes.Divided.{Divided}
 use Rattle.standard.specs.declared.Frame.{Frame}
 use Rattle.standard.specs.declared.Counts.{Counts}
 use Rattle.standard.specs.declared.Geometry.{Geometry}
 use Rattle.standard.specs.Stripes.{rectangle, rectangles}
-use Rattle.standard.specs.Refusals.{no2, no4, no5, first, count_tests, rectangle_tests, sub_x_of, sub_y_of, plane_height, plane_width}
+use Rattle.standard.specs.Refusals.{no2, no4, no5, size5, frame2, frame4, first, count_tests, rectangle_tests, sub_x_of, sub_y_of, plane_height, plane_width}
 use Rattle.standard.specs.Answers.{no_counts, nowhere}
 use Rattle.standard.specs.Calls.{counts_of, count_answer, rectangle_answer}
 use Rattle.standard.proofs.Stripes.{Size, s32, s64, s128, s256, size_of}
 use Rattle.standard.proofs.Frames.{sized_of}
-use Rattle.standard.proofs.Refusals.{count_table}
+use Rattle.standard.proofs.Refusals.{count_table, first_here}
 use Rattle.geometry.specs.Legal.{Legal}
 
--- ---- the number that each test gives, where earlier ones have answered
-module _ (f : Frame) where
-  pub gives_2 : no2 f.plane f.sub_x f.sub_y ≡ true → 2 ≡ first (count_tests f)
-  unfolding count_tests first
-  gives_2 e = rw e
+-- ---- the number that the tests give
+pub gives_2_4 : (f : Frame) (n : ℕ) → 1 ≤ n → n ≡ first (frame2 f ∷ frame4 f ∷ []) → n ≡ first (count_tests f)
+unfolding count_tests
+gives_2_4 f n p e = given_first f n ((5, size5 f) ∷ []) p e
 
-  module _ (e2 : no2 f.plane f.sub_x f.sub_y ≡ false) where
-    pub gives_4 : no4 f.frame_height ≡ true → 4 ≡ first (count_tests f)
-    unfolding count_tests first
-    gives_4 e = rw (e2, e)
+pub gives_0 : (f : Frame) → no2 f.plane f.sub_x f.sub_y ≡ false → no4 f.frame_height ≡ false → no4 f.upscaled_width ≡ false → size5 f ≡ false → 0 ≡ first (count_tests f)
+unfolding count_tests first
+gives_0 f e2 eh ew e5 = rw (e2, eh, ew, e5)
 
-    module _ (eh : no4 f.frame_height ≡ false) where
-      pub gives_4_wide : no4 f.upscaled_width ≡ true → 4 ≡ first (count_tests f)
-      unfolding count_tests first
-      gives_4_wide e = rw (e2, eh, e)
+-- where a plane of the frame is known, number 5 alone is left
+module _ (p : Plane) (f : Frame) (q : p.frame ≡ f) where
+  pub size_5 : size5 f ≡ true → 5 ≡ first (count_tests f)
+  unfolding count_tests
+  size_5 e = sym (passed_first p ((5, size5 p.frame) ∷ []) ∙ first_here 5 (size5 p.frame) [] (ap (λ g. size5 g) q ∙ e)) ∙ ap (λ g. first (count_tests g)) q
 
-      module _ (ew : no4 f.upscaled_width ≡ false) where
-        pub gives_5 : no5 f.plane f.sub_x f.sub_y f.unit_size ≡ true → 5 ≡ first (count_tests f)
-        unfolding count_tests first
-        gives_5 e = rw (e2, eh, ew, e)
-
-        pub gives_0 : no5 f.plane f.sub_x f.sub_y f.unit_size ≡ false → 0 ≡ first (count_tests f)
-        unfolding count_tests first
-        gives_0 e = rw (e2, eh, ew, e)
+  pub size_0 : size5 f ≡ false → 0 ≡ first (count_tests f)
+  size_0 e = gives_0 p.frame p.plane p.high p.wide (ap (λ g. size5 g) q ∙ e) ∙ ap (λ g. first (count_tests g)) q
 
 -- ---- what the numbers of a frame are where no test gives one
 size_legal : {size : ℕ} → Size size → (0 < size) × (size ≤ 256)
@@ -87,6 +82,20 @@ passed f e =
       no_2 = none 0;
       no_5 = none 2;
     }
+
+pub divided_passes : (d : Divided) → first (count_tests d.plane.frame) ≡ 0
+divided_passes d = sym (gives_0 d.plane.frame d.plane.plane d.plane.high d.plane.wide d.size)
+
+pub divided : (d : Divided) → Passed d.plane.frame
+divided d = passed _ (divided_passes d)
+
+-- and a frame of such numbers is a plane, divided
+pub untested : (f : Frame) → first (count_tests f) ≡ 0 → (no2 f.plane f.sub_x f.sub_y ≡ false) × (no4 f.frame_height ≡ false) × (no4 f.upscaled_width ≡ false)
+unfolding count_tests
+untested f e =
+    let none = (count_table f).complete e in
+    let sides = or_no (no4 f.frame_height) (no4 f.upscaled_width) (none 1) in
+    (none 0, sides.0, sides.1)
 
 -- ---- the answers
 pub count_done : (f : Frame) (k : Counts) → first (count_tests f) ≡ 0 → k ≡ counts_of f → (0, k) ≡ count_answer f

@@ -5,11 +5,11 @@ use Prim.Native.Nat.{ℕ, ◌<◌}
 use native.Mathlib.Omega.{arith}
 use lib.Dec.{ltb}
 use borrow.Author.Tests.{le-leb, lt-leb}
+use Rattle.std.specs.Prelude.{Result, Ok}
 use Rattle.laws.specs.Tests.{Test, test}
 use Rattle.standard.specs.declared.Frame.{Frame}
 use Rattle.standard.specs.declared.Counts.{Counts}
-use Rattle.standard.specs.declared.Counted.{Counted}
-use Rattle.standard.specs.declared.Placed.{Placed}
+use Rattle.standard.specs.declared.Refusal.{Refusal}
 use Rattle.standard.specs.declared.Geometry.{Geometry}
 use Rattle.standard.specs.Answers.{of_counted, of_placed}
 use Rattle.standard.specs.Calls.{count_answer, rectangle_answer, counts_of}
@@ -22,10 +22,10 @@ use Rattle.frames.proofs.Legal.{halved}
 use Rattle.geometry.proofs.Laws.{count_small}
 use Rattle.geometry.proofs.Tests.{passed, rectangle_done, rectangle_over, count_done}
 
-pub count_once : (f : Frame) (r s : Counted) → of_counted r ≡ count_answer f → of_counted s ≡ count_answer f → r ≡ s
+pub count_once : (f : Frame) (r s : Result Counts Refusal) → of_counted r ≡ count_answer f → of_counted s ≡ count_answer f → r ≡ s
 count_once f r s p q = counted_once r s (p ∙ sym q)
 
-pub rectangle_once : (f : Frame) (index : ℕ) (r s : Placed) → of_placed r ≡ rectangle_answer f index → of_placed s ≡ rectangle_answer f index → r ≡ s
+pub rectangle_once : (f : Frame) (index : ℕ) (r s : Result Geometry Refusal) → of_placed r ≡ rectangle_answer f index → of_placed s ≡ rectangle_answer f index → r ≡ s
 rectangle_once f index r s p q = placed_once r s (p ∙ sym q)
 
 -- ---- the rectangles of a frame that passes its tests
@@ -40,31 +40,31 @@ abbrev pub block_at : Frame → ℕ → ℕ → Geometry
 block_at f y x = block (sub_x_of f) (sub_y_of f) f.unit_size (plane_height f) (plane_width f) (block_of (sub_y_of f) y) (block_of (sub_x_of f) x)
 
 -- answers that keep the promise of `rectangle`, one for each index of 32 bits
-abbrev pub Promised : Frame → (ℕ → Placed) → Type 0
+abbrev pub Promised : Frame → (ℕ → Result Geometry Refusal) → Type 0
 Promised f answer = (i : ℕ) → i < 4294967296 → of_placed (answer i) ≡ rectangle_answer f i
 
 -- the one rectangle that holds the sample (y, x): it is answered below the count that is answered, holds the sample, names the unit and the
 -- stripe of the sample's block, and no other answer holds the sample
-pub record Once (f : Frame) (counted : Counted) (answer : ℕ → Placed) (y x : ℕ) : Type 0 where
+pub record Once (f : Frame) (counted : Result Counts Refusal) (answer : ℕ → Result Geometry Refusal) (y x : ℕ) : Type 0 where
   pub counts : Counts
-  pub is_counted : counted ≡ Counted.Done counts
+  pub is_counted : counted ≡ Ok counts
   pub index : ℕ
   pub below : index < counts.rectangles
   pub place : Geometry
-  pub answered : answer index ≡ Placed.Done place
+  pub answered : answer index ≡ Ok place
   pub holds : In place y x
   pub unit_row : place.unit_row ≡ (block_at f y x).unit_row
   pub unit_col : place.unit_col ≡ (block_at f y x).unit_col
   pub stripe_start : place.stripe_start_y ≡ (block_at f y x).stripe_start_y
   pub stripe_end : place.stripe_end_y ≡ (block_at f y x).stripe_end_y
-  pub only : (i : ℕ) (g : Geometry) → i < 4294967296 → answer i ≡ Placed.Done g → In g y x → i ≡ index
+  pub only : (i : ℕ) (g : Geometry) → i < 4294967296 → answer i ≡ Ok g → In g y x → i ≡ index
 
 module _ (f : Frame) (e : first (count_tests f) ≡ 0) where
   -- below the count that rectangle is answered, and every rectangle that is answered is below the count
-  done : (i : ℕ) (r : Placed) → of_placed r ≡ rectangle_answer f i → i < many f → r ≡ Placed.Done (nth f i)
-  done i r p h = rectangle_once f i r (Placed.Done (nth f i)) p (rectangle_done f i (nth f i) e (lt-leb (many f) i h) refl)
+  done : (i : ℕ) (r : Result Geometry Refusal) → of_placed r ≡ rectangle_answer f i → i < many f → r ≡ Ok (nth f i)
+  done i r p h = rectangle_once f i r (Ok (nth f i)) p (rectangle_done f i (nth f i) e (lt-leb (many f) i h) refl)
 
-  inside : (i : ℕ) (r : Placed) (g : Geometry) → of_placed r ≡ rectangle_answer f i → r ≡ Placed.Done g → i < many f
+  inside : (i : ℕ) (r : Result Geometry Refusal) (g : Geometry) → of_placed r ≡ rectangle_answer f i → r ≡ Ok g → i < many f
   inside i r g p q = go (ltb i (many f)) (test i (many f))
     where
       go : (b : Bool) → Test i (many f) b → i < many f
@@ -75,7 +75,7 @@ module _ (f : Frame) (e : first (count_tests f) ≡ 0) where
   unfolding rectangles
   small = omega (arith, count_small (sub_y_of f) f.unit_size (plane_height f) (plane_width f) (passed f e).legal refl refl)
 
-  pub covered_once : (counted : Counted) → of_counted counted ≡ count_answer f → (answer : ℕ → Placed) → Promised f answer →
+  pub covered_once : (counted : Result Counts Refusal) → of_counted counted ≡ count_answer f → (answer : ℕ → Result Geometry Refusal) → Promised f answer →
       (y x : ℕ) → y < plane_height f → x < plane_width f → Once f counted answer y x
   unfolding counts_of
   covered_once counted k answer p y x hy hx =
@@ -86,7 +86,7 @@ module _ (f : Frame) (e : first (count_tests f) ≡ 0) where
       let names = named size (plane_height f) (plane_width f) y x hy hx (halved (sub_x_of f) q.own_x) in
       record {
         counts = counts_of f;
-        is_counted = count_once f counted (Counted.Done (counts_of f)) k (count_done f (counts_of f) e refl);
+        is_counted = count_once f counted (Ok (counts_of f)) k (count_done f (counts_of f) e refl);
         index = at;
         below = low;
         place = nth f at;

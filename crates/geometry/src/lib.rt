@@ -9,41 +9,32 @@ pub mod planes; // planes.rt: the same from a frame's numbers, once tested
 ghost use Rattle.std.specs.Prelude.{◌≡◌};
 ghost use Rattle.standard.specs.Answers.{of_counted, of_placed};
 ghost use Rattle.standard.specs.Calls.{count_answer, rectangle_answer};
-ghost use Rattle.standard.specs.Refusals.{count_tests, first};
 
-use crate::planes::{counts, rectangle_of, tested};
-use standard::{Counted, Frame, Placed, Refusal, Stored};
+use crate::planes::{Divided, tested};
+use standard::{Counts, Frame, Geometry, Refusal};
 
 // Unit rows, unit columns, stripes and rectangles of a plane.
-pub fn count(f: Frame) -> Counted
+pub fn count(f: Frame) -> Result<Counts, Refusal>
     ensures { of_counted result ≡ count_answer f }
 {
-    let t = tested(f);
-    match t {
-        Stored::Refused(why) => Counted::Refused(why),
-        Stored::Done => Counted::Done(counts(f)),
-    }
+    let d = tested(f)?;
+    Ok(d.counts())
 }
 
 // A rectangle by its index: stripe by stripe, left to right.
-pub fn rectangle(f: Frame, index: u32) -> Placed
+pub fn rectangle(f: Frame, index: u32) -> Result<Geometry, Refusal>
     ensures { of_placed result ≡ rectangle_answer f index }
 {
-    let t = tested(f);
-    match t {
-        Stored::Refused(why) => Placed::Refused(why),
-        Stored::Done => indexed(f, index),
-    }
+    let d = tested(f)?;
+    indexed(d, index)
 }
 
 // The last test, 13, and the rectangle.
-fn indexed(f: Frame, index: u32) -> Placed
-    requires { first (count_tests f) ≡ 0 }
-    ensures { of_placed result ≡ rectangle_answer f index }
+fn indexed(d: Divided, index: u32) -> Result<Geometry, Refusal>
+    ensures { of_placed result ≡ rectangle_answer d.plane.frame index }
 {
-    let c = counts(f);
-    if c.rectangles <= index {
-        return Placed::Refused(Refusal::BadIndex);
+    if d.counts().rectangles <= index {
+        return Err(Refusal::BadIndex);
     }
-    Placed::Done(rectangle_of(f, index))
+    Ok(d.rectangle(index))
 }

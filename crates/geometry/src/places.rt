@@ -5,7 +5,7 @@ ghost use Rattle.standard.specs.Stripes as defined;
 ghost use Rattle.geometry.specs.Legal.{Legal};
 
 use crate::stripes::{stripe_end_y, stripe_start, stripe_start_y, stripe_stop};
-use crate::units::{least, right, unit_col, unit_row, units};
+use crate::units::{right, unit_col, unit_row, units};
 use standard::Geometry;
 
 // Rectangle `index` of a plane.
@@ -22,10 +22,10 @@ pub fn rectangle_at(sub_y: u32, size: u32, height: u32, width: u32, index: u32) 
     Geometry {
         unit_row: unit_row(sub_y, size, height, s),
         unit_col: c,
-        x: x,
-        y: y,
+        x,
+        y,
         w: right(size, width, c) - x,
-        h: least(height, stripe_stop(sub_y, s)) - y,
+        h: height.min(stripe_stop(sub_y, s)) - y,
         stripe_start_y: stripe_start_y(sub_y, s),
         stripe_end_y: stripe_end_y(sub_y, s),
         plane_end_x: width as i32 - 1,
@@ -38,10 +38,7 @@ fn cut(sub: u32, at: u32, extent: u32) -> u32
     requires { sub ≤ 1 }
     ensures { result ≡ nat.min (4 / 2 ^ sub) (extent - at) }
 {
-    if extent < at {
-        return 0;
-    }
-    least(4 >> sub, extent - at)
+    (4 >> sub).min(extent.saturating_sub(at))
 }
 
 // derive_block_geometry, for the block of `row` and `col`, counted in blocks.
@@ -66,8 +63,8 @@ pub fn block(
     Geometry {
         unit_row: unit_col(size, height, luma >> sub_y),
         unit_col: unit_col(size, width, x),
-        x: x,
-        y: y,
+        x,
+        y,
         w: cut(sub_x, x, width),
         h: cut(sub_y, y, height),
         stripe_start_y: stripe_start_y(sub_y, s),

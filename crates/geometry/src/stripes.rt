@@ -19,14 +19,12 @@ pub fn stripes(sub_y: u32, height: u32) -> u32
 }
 
 // The first row of stripe s in the plane.
+#[tactic(auto, unfolding(standard::specs::Stripes::stripe_start))]
 pub fn stripe_start(sub_y: u32, s: u32) -> u32
     requires { (sub_y ≤ 1) × (s ≤ 65535) }
     ensures { result ≡ defined.stripe_start sub_y s }
 {
-    if s == 0 {
-        return 0;
-    }
-    (64 * s - 8) >> sub_y
+    (64 * s).saturating_sub(8) >> sub_y
 }
 
 // The row after the last of stripe s, not cut to the plane.

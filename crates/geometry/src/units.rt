@@ -1,36 +1,23 @@
 // Units along an extent, the unit of a stripe, of a column, and the column after a unit's last.
 ghost use Rattle.std.specs.Prelude.{◌≡◌, ◌≤◌, ◌<◌};
-ghost use Prim.Native.Nat as nat;
 ghost use Rattle.standard.specs.Stripes as defined;
 
-pub fn least(a: u32, b: u32) -> u32
-    ensures { result ≡ nat.min a b }
-{
-    if a < b {
-        return a;
-    }
-    b
-}
-
 // count_units_in_frame: a rest of half a unit or more is a unit of its own.
+#[tactic(auto, unfolding(standard::specs::Stripes::units))]
 pub fn units(extent: u32, size: u32) -> u32
     requires { (0 < size) × (size ≤ 256) × (extent ≤ 65535) }
     ensures { result ≡ defined.units extent size }
 {
-    let whole = (extent + size / 2) / size;
-    if whole == 0 {
-        return 1;
-    }
-    whole
+    ((extent + size / 2) / size).max(1)
 }
 
 // The unit that holds place x of an extent: the last one holds the rest.
+#[tactic(auto, unfolding(standard::specs::Stripes::unit_col_of))]
 pub fn unit_col(size: u32, width: u32, x: u32) -> u32
     requires { (0 < size) × (size ≤ 256) × (width ≤ 65535) }
     ensures { result ≡ defined.unit_col_of size width x }
 {
-    let last = units(width, size) - 1;
-    least(last, x / size)
+    (x / size).min(units(width, size) - 1)
 }
 
 // The unit row of a stripe: that of luma row 64 s, though the stripe starts eight rows above it.
@@ -47,9 +34,9 @@ pub fn right(size: u32, width: u32, c: u32) -> u32
     requires { (0 < size) × (size ≤ 256) × (width ≤ 65535) × (c ≤ 65535) }
     ensures { result ≡ defined.right size width c }
 {
-    let next = (c + 1) * size;
     if c + 1 == units(width, size) {
-        return width;
+        width
+    } else {
+        (c + 1) * size
     }
-    next
 }

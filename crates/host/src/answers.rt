@@ -1,10 +1,9 @@
 // Answers as the C interface gives them: document 01's number, then the values, zeros beside a refusal.
 ghost use Rattle.std.specs.Prelude.{◌≡◌};
-ghost use Rattle.standard.specs.Answers.{of_counted, of_placed, of_restored, of_stored, no_counts, nowhere};
+ghost use Rattle.standard.specs.Answers.{of_counted, of_placed, of_restored, of_stored};
 ghost use Rattle.host.specs.Numbers.{counted_of, placed_of, restored_of};
 
-use frames::number;
-use standard::{Counted, Counts, Geometry, Placed, Restored, Stored};
+use standard::{Counts, Geometry, Refusal};
 
 #[repr(C)]
 #[derive(Clone, Copy)]
@@ -43,7 +42,7 @@ fn counts_beside(number: u32, c: Counts) -> CountedNumbers
     ensures { counted_of result ≡ (number, c) }
 {
     CountedNumbers {
-        number: number,
+        number,
         unit_rows: c.unit_rows,
         unit_cols: c.unit_cols,
         stripes: c.stripes,
@@ -51,23 +50,15 @@ fn counts_beside(number: u32, c: Counts) -> CountedNumbers
     }
 }
 
-fn no_counts() -> Counts
-    ensures { result ≡ no_counts }
-{
-    Counts {
-        unit_rows: 0,
-        unit_cols: 0,
-        stripes: 0,
-        rectangles: 0,
-    }
-}
+// Stays, with the two below: the C interface has a struct for each answer.
+impl From<Result<Counts, Refusal>> for CountedNumbers {
+    ghost from_gives = { λ answer r. counted_of r ≡ of_counted answer };
 
-pub fn counted(answer: Counted) -> CountedNumbers
-    ensures { counted_of result ≡ of_counted answer }
-{
-    match answer {
-        Counted::Done(counts) => counts_beside(0, counts),
-        Counted::Refused(why) => counts_beside(number(why), no_counts()),
+    fn from(answer: Result<Counts, Refusal>) -> CountedNumbers {
+        match answer {
+            Ok(counts) => counts_beside(0, counts),
+            Err(why) => counts_beside(u32::from(why), Counts::default()),
+        }
     }
 }
 
@@ -75,7 +66,7 @@ fn place_beside(number: u32, g: Geometry) -> PlacedNumbers
     ensures { placed_of result ≡ (number, g) }
 {
     PlacedNumbers {
-        number: number,
+        number,
         unit_row: g.unit_row,
         unit_col: g.unit_col,
         x: g.x,
@@ -89,53 +80,37 @@ fn place_beside(number: u32, g: Geometry) -> PlacedNumbers
     }
 }
 
-fn nowhere_at_all() -> Geometry
-    ensures { result ≡ nowhere }
-{
-    Geometry {
-        unit_row: 0,
-        unit_col: 0,
-        x: 0,
-        y: 0,
-        w: 0,
-        h: 0,
-        stripe_start_y: 0,
-        stripe_end_y: 0,
-        plane_end_x: 0,
-        plane_end_y: 0,
+impl From<Result<Geometry, Refusal>> for PlacedNumbers {
+    ghost from_gives = { λ answer r. placed_of r ≡ of_placed answer };
+
+    fn from(answer: Result<Geometry, Refusal>) -> PlacedNumbers {
+        match answer {
+            Ok(place) => place_beside(0, place),
+            Err(why) => place_beside(u32::from(why), Geometry::default()),
+        }
     }
 }
 
-pub fn placed(answer: Placed) -> PlacedNumbers
-    ensures { placed_of result ≡ of_placed answer }
-{
-    match answer {
-        Placed::Done(place) => place_beside(0, place),
-        Placed::Refused(why) => place_beside(number(why), nowhere_at_all()),
+impl From<Result<u32, Refusal>> for RestoredNumbers {
+    ghost from_gives = { λ answer r. restored_of r ≡ of_restored answer };
+
+    fn from(answer: Result<u32, Refusal>) -> RestoredNumbers {
+        match answer {
+            Ok(changed) => RestoredNumbers { number: 0, changed },
+            Err(why) => RestoredNumbers {
+                number: u32::from(why),
+                changed: 0,
+            },
+        }
     }
 }
 
 // The number of a call whose result is in a lent slice alone.
-pub fn stored(answer: Stored) -> u32
+pub fn stored(answer: Result<(), Refusal>) -> u32
     ensures { result ≡ of_stored answer }
 {
     match answer {
-        Stored::Done => 0,
-        Stored::Refused(why) => number(why),
-    }
-}
-
-pub fn restored(answer: Restored) -> RestoredNumbers
-    ensures { restored_of result ≡ of_restored answer }
-{
-    match answer {
-        Restored::Done(changed) => RestoredNumbers {
-            number: 0,
-            changed: changed,
-        },
-        Restored::Refused(why) => RestoredNumbers {
-            number: number(why),
-            changed: 0,
-        },
+        Ok(()) => 0,
+        Err(why) => u32::from(why),
     }
 }

@@ -4,7 +4,7 @@ ghost use Rattle.standard.specs.Calls.{capture_edges, plane_answer, plane_out};
 ghost use Rattle.standard.specs.Refusals.{capture_tests, first, plane_tests};
 ghost use Rattle.host.specs.Numbers.{restored_of};
 
-use crate::answers::{RestoredNumbers, restored, stored};
+use crate::answers::{RestoredNumbers, stored};
 use edges::capture_edges;
 use restoration::restore_plane;
 use standard::Frame;
@@ -21,7 +21,7 @@ pub fn cironetop_restore_plane<'a>(
     ensures out_after { out.new ≡ plane_out f units.now deblocked.now cdef.now out.old (length scratch.old) }
     ensures scratch_unchanged { (first (plane_tests f units.now deblocked.now cdef.now (length out.old) (length scratch.old)) ≡ 0 → ⊥) → scratch.new ≡ scratch.old }
 {
-    restored(restore_plane(f, units, deblocked, cdef, out, scratch))
+    RestoredNumbers::from(restore_plane(f, units, deblocked, cdef, out, scratch))
 }
 
 pub fn cironetop_capture_edges(f: Frame, deblocked: &[i32], edges: &mut [i32]) -> u32

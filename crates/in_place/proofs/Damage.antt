@@ -7,9 +7,10 @@ use mathlib.Core.List.{List, [], ◌∷◌}
 use Prim.Native.Nat.{ℕ, ◌*◌, ◌+◌, ◌<◌}
 use lib.IntN.{ℤ, pos}
 use lib.ListN.{length, get_or}
+use Rattle.std.specs.Prelude.{Result}
 use Rattle.laws.specs.Congruence.{ap2}
 use Rattle.standard.specs.declared.Frame.{Frame}
-use Rattle.standard.specs.declared.Stored.{Stored}
+use Rattle.standard.specs.declared.Refusal.{Refusal}
 use Rattle.standard.specs.Answers.{of_stored}
 use Rattle.standard.specs.Stripes.{stripe_of, stripes}
 use Rattle.standard.specs.Planes.{captured_slice, grid, marked, restored_slice}
@@ -26,7 +27,7 @@ use Rattle.in_place.specs.Call.{Promised, lent}
 -- a call of the run, with its answer and what it left in plane and marks
 pub record Called : Type 0 where
   pub call : StripeCall
-  pub answer : Stored
+  pub answer : Result (Unit {0}) Refusal
   pub after : Lent
 
 -- each call keeps its promise on what the call before it left
@@ -43,7 +44,7 @@ unfoldable pub calls : List Called → List StripeCall
 calls [] = []
 calls (k ∷ l) = k.call ∷ calls l
 
-after_is : (c : StripeCall) (st mid : Lent) (r : Stored) → Promised c st r mid → mid ≡ after_stripe c st
+after_is : (c : StripeCall) (st mid : Lent) (r : Result (Unit {0}) Refusal) → Promised c st r mid → mid ≡ after_stripe c st
 after_is c st mid r p = ap2 lent p.1 p.2
 
 -- such a run ends where the definition's does
@@ -53,7 +54,7 @@ run_ended [] st r = refl
 run_ended (k ∷ l) st r = run_ended l k.after r.1 ∙ ap (run (calls l)) (after_is k.call st k.after k.answer r.0)
 
 -- ---- frame, unit table and edge rows; the rows were captured from D by a `capture_edges` that was done
-module _ (f : Frame) (table D E₀ E : List ℤ) (captured : Stored) (answered : of_stored captured ≡ first (capture_tests f D (length E₀))) (left : E ≡ capture_edges f D E₀) (done : of_stored captured ≡ 0) where
+module _ (f : Frame) (table D E₀ E : List ℤ) (captured : Result (Unit {0}) Refusal) (answered : of_stored captured ≡ first (capture_tests f D (length E₀))) (left : E ≡ capture_edges f D E₀) (done : of_stored captured ≡ 0) where
   zero : first (capture_tests f D (length E₀)) ≡ 0
   zero = sym answered ∙ done
 

@@ -33,11 +33,11 @@ use Rattle.standard.proofs.Rectangles.{col_below, index_of}
 use Rattle.fetch.specs.declared.Source.{Source}
 use Rattle.fetch.specs.Source.{stripe_source}
 use Rattle.fetch.proofs.Sources.{Copied, stripe_cell}
-use Rattle.rectangle.specs.View.{Fetchable, shown_at}
+use Rattle.rectangle.specs.View.{Fetchable, Sides, shown_at}
 use Rattle.rectangle.proofs.SharpLaws.{near_in}
 use Rattle.geometry.proofs.Tests as counts
 use Rattle.restoration.specs.Asked.{Asked, Stripe, unit_shown}
-use Rattle.restoration.proofs.Units.{sized}
+use Rattle.restoration.proofs.Units.{sized, sides}
 use Rattle.stripe_tests.proofs.Laws.{legal}
 use Rattle.stripe_tests.proofs.Passed.{StripePassed}
 use Rattle.in_place.proofs.Ranges.{high, hv, own_samples, start, stripe_fetched}
@@ -114,8 +114,8 @@ module _ {f : Frame} {s : ℕ} {table E P : List ℤ} {scratch room : ℕ} (p : 
         other y x hy hx n (inr l) = u.after y x hy hx (after y x (omega (arith, n)))
 
     -- the same by the values that the code holds
-    pub stripe_asked : (r : Source) → r ≡ stripe_source (sub_y_of f) s → (e : Depth) → e ≡ depth_of f.depth → Stripe f s r × Fetchable (largest e) C E (plane_width f) (plane_height f) r
-    stripe_asked r er e ed = rw (er, ed) (record { start = refl; stop = refl }, stripe_fetched p C c)
+    pub stripe_asked : (r : Source) → r ≡ stripe_source (sub_y_of f) s → (e : Depth) → e ≡ depth_of f.depth → (w h : ℕ) → w ≡ plane_width f → h ≡ plane_height f → Stripe f s r × Fetchable (largest e) C E w h r × Sides w h
+    stripe_asked r er e ed w h ew eh = rw (er, ed, ew, eh) (record { start = refl; stop = refl }, stripe_fetched p C c, sides asked)
 
     pub stripe_written : (r : Source) → r ≡ stripe_source (sub_y_of f) s → (e : Depth) → e ≡ depth_of f.depth → (o : List ℤ) →
         Painted (index_of (sub_y_of f) f.unit_size (plane_width f)) (plane_width f) (plane_height f) (unit_shown f table e C E r) (pos 0)

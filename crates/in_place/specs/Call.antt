@@ -1,7 +1,7 @@
 -- A call of `restore_stripe` by its arguments, the slices that it is lent, and its promise on the answer and on what it leaves in them.
-use Rattle.std.specs.Prelude.{◌≡◌, List, ℕ, ℤ}
+use Rattle.std.specs.Prelude.{◌≡◌, List, ℕ, ℤ, Result}
 use Rattle.standard.specs.declared.Frame.{Frame}
-use Rattle.standard.specs.declared.Stored.{Stored}
+use Rattle.standard.specs.declared.Refusal.{Refusal}
 use Rattle.standard.specs.Answers.{of_stored}
 use Rattle.standard.specs.Calls.{Lent, StripeCall, after_stripe, stripe_call_number}
 
@@ -12,5 +12,5 @@ abbrev pub lent : List ℤ → List ℕ → Lent
 lent P marks = record { plane = P; marks = marks }
 
 -- the answer's number, the plane and the marks afterwards: each by an equation
-abbrev pub Promised : StripeCall → Lent → Stored → Lent → Type 0
+abbrev pub Promised : StripeCall → Lent → Result (Unit {0}) Refusal → Lent → Type 0
 Promised c st r after = (of_stored r ≡ stripe_call_number c st) × (after.plane ≡ (after_stripe c st).plane) × (after.marks ≡ (after_stripe c st).marks)

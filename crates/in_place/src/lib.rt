@@ -10,7 +10,7 @@ ghost use Rattle.stripe_tests.proofs.Passed.{StripePassed};
 ghost use Rattle.in_place.specs.Call.{Promised, call_of, lent};
 
 use crate::rows::{copy_rows, restore_rows};
-use standard::{Frame, Stored};
+use standard::{Frame, Refusal};
 use stripe_tests::stripe_tests;
 
 // Restores stripe s of the plane in place and sets its mark; a refused call leaves every slice as it was.
@@ -23,19 +23,14 @@ pub fn restore_stripe(
     marks: &mut [u8],
     scratch: &mut [i32],
     copy: &mut [i32],
-) -> Stored
+) -> Result<(), Refusal>
     ensures promised { Promised (call_of f s table.now edges.now (length scratch.old) (length copy.old)) (lent plane.old marks.old) result (lent plane.new marks.new) }
     ensures scratch_unchanged { (stripe_call_number (call_of f s table.now edges.now (length scratch.old) (length copy.old)) (lent plane.old marks.old) ≡ 0 → ⊥) → (scratch.new ≡ scratch.old) × (copy.new ≡ copy.old) }
 {
-    let t = stripe_tests(f, s, table, edges, plane, marks, scratch.len(), copy.len());
-    match t {
-        Stored::Refused(why) => Stored::Refused(why),
-        Stored::Done => {
-            write_stripe(f, s, table, edges, plane, scratch, copy);
-            marks[s as usize] = 1;
-            Stored::Done
-        }
-    }
+    stripe_tests(f, s, table, edges, plane, marks, scratch.len(), copy.len())?;
+    write_stripe(f, s, table, edges, plane, scratch, copy);
+    marks[s as usize] = 1;
+    Ok(())
 }
 
 // The stripe's rows, once no number is given: with frame type 0 they stay.

@@ -9,11 +9,13 @@ ghost use Rattle.fetch.proofs.Sources.{Copied};
 ghost use Rattle.stripe_tests.specs.Parts.{Numbered};
 ghost use Rattle.stripe_tests.proofs.Passed.{StripePassed};
 
-use boxes::rows::table as a2_table;
+use boxes::table::A2;
 use fetch::Source;
-use frames::sub_of;
+use frames::plane::Plane;
+use frames::{extent, sub_of};
 use geometry::stripes::{stripe_start, stripe_stop};
 use numbers::depth_of;
+use rectangle::view::View;
 use restoration::rectangles::restore_rectangles;
 use runs::copy_run;
 use standard::Frame;
@@ -51,7 +53,8 @@ pub fn copy_rows(copy: &mut [i32], plane: &[i32], f: Frame, s: u32)
     requires { Numbered f × (s < defined.stripes (sub_y_of f) (plane_height f)) × (length plane.now ≡ samples f) × (copy_need (sub_y_of f) (plane_height f) (plane_width f) ≤ length copy.old) }
     ensures { Copied plane.now copy.new (plane_width f) (defined.stripe_start (sub_y_of f) s) (min (plane_height f) (defined.stripe_stop (sub_y_of f) s) - defined.stripe_start (sub_y_of f) s) }
 {
-    let rows = own_rows(f, plane, s);
+    let p = Plane { frame: f };
+    let rows = own_rows(p, plane, s);
     copy_run(copy, 0, rows, 0, rows.len());
 }
 
@@ -69,9 +72,18 @@ pub fn restore_rows<'a>(
     requires copied { Copied plane.old copy.now (plane_width f) (defined.stripe_start (sub_y_of f) s) (min (plane_height f) (defined.stripe_stop (sub_y_of f) s) - defined.stripe_start (sub_y_of f) s) }
     ensures { plane.new ≡ stripe_slice (shape_of f table.now) edges.now s plane.old }
 {
-    let d = depth_of(f.depth);
-    let r = stripe_source(sub_of(f.plane, f.sub_y), s);
-    let mut tab = [0i32; 256];
-    a2_table(&mut tab);
-    restore_rectangles(plane, copy, edges, f, r, s, table, scratch, d, &tab);
+    let w = extent(f.plane, f.sub_x, f.upscaled_width) as usize;
+    let h = extent(f.plane, f.sub_y, f.frame_height) as usize;
+    let source = stripe_source(sub_of(f.plane, f.sub_y), s);
+    let depth = depth_of(f.depth);
+    let v = View {
+        inside: copy,
+        beside: edges,
+        w,
+        h,
+        source,
+        depth,
+    };
+    let tab = A2::new();
+    restore_rectangles(plane, v, f, s, table, scratch, &tab);
 }

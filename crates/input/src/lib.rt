@@ -8,6 +8,7 @@ use std::io;
 use std::io::Read;
 
 // Reads until buf is full or the input ends, and returns how many bytes it put at the start of buf.
+// Stays: no plainer. A read takes as many bytes as it likes, so the place steps by more than one; `read_exact` forgets how many came before the end.
 pub fn read_full<R: Read>(from: &mut R, buf: &mut [u8]) -> io::Result<usize>
     ensures within { IfOk result (λ n. n ≤ length buf.new) }
     ensures taken { IfOk result (λ n. Consumes (R.remaining from.old) (R.remaining from.new) (take n buf.new)) }

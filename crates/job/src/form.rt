@@ -5,7 +5,7 @@ ghost use Rattle.standard.specs.Job.{frame_of, open_answer};
 ghost use Rattle.job.specs.Form.{counted_answer, over_bounds};
 
 use crate::entries::entry;
-use standard::{Frame, JobRead, JobRefusal, Sections};
+use standard::{Frame, JobRefusal, Sections};
 
 // The eight entries of the frame.
 fn frame_of(bytes: &[u8]) -> Frame
@@ -25,30 +25,30 @@ fn frame_of(bytes: &[u8]) -> Frame
 }
 
 // 17: each count is read only where the bytes reach it, and they end with the last section.
-fn counted(bytes: &[u8]) -> JobRead
+fn counted(bytes: &[u8]) -> Result<Sections, JobRefusal>
     requires { length bytes.now ≤ 4160 }
     ensures { of_job_read result ≡ counted_answer bytes.now }
 {
     let n = bytes.len();
     if n < 24 {
-        return JobRead::Refused(JobRefusal::NoJob);
+        return Err(JobRefusal::NoJob);
     }
     if entry(bytes, 0) != 8 {
-        return JobRead::Refused(JobRefusal::NoJob);
+        return Err(JobRefusal::NoJob);
     }
     let u = entry(bytes, 9) as usize;
     if n < 24 + 2 * u {
-        return JobRead::Refused(JobRefusal::NoJob);
+        return Err(JobRefusal::NoJob);
     }
     let d = entry(bytes, 10 + u) as usize;
     if n < 24 + 2 * (u + d) {
-        return JobRead::Refused(JobRefusal::NoJob);
+        return Err(JobRefusal::NoJob);
     }
     let c = entry(bytes, 11 + u + d) as usize;
     if n != 24 + 2 * (u + d + c) {
-        return JobRead::Refused(JobRefusal::NoJob);
+        return Err(JobRefusal::NoJob);
     }
-    JobRead::Done(Sections {
+    Ok(Sections {
         frame: frame_of(bytes),
         units: u,
         deblocked: d,
@@ -56,40 +56,27 @@ fn counted(bytes: &[u8]) -> JobRead
     })
 }
 
+#[tactic(auto, unfolding(crate::specs::Form::over_bounds))]
 fn over(s: Sections) -> bool
     ensures { result ≡ over_bounds s }
 {
-    let f = s.frame;
-    if 8 < f.upscaled_width {
-        return true;
-    }
-    if 128 < f.frame_height {
-        return true;
-    }
-    if 20 < s.units {
-        return true;
-    }
-    if 1024 < s.deblocked {
-        return true;
-    }
-    1024 < s.cdef
+    8 < s.frame.upscaled_width
+        || 128 < s.frame.frame_height
+        || 20 < s.units
+        || 1024 < s.deblocked
+        || 1024 < s.cdef
 }
 
 // The extra results in their order: 18 for a longer input, 17, 18 over another bound.
-pub fn form(bytes: &[u8]) -> JobRead
+pub fn form(bytes: &[u8]) -> Result<Sections, JobRefusal>
     ensures { of_job_read result ≡ open_answer bytes.now }
 {
     if 4160 < bytes.len() {
-        return JobRead::Refused(JobRefusal::OverBound);
+        return Err(JobRefusal::OverBound);
     }
-    let t = counted(bytes);
-    match t {
-        JobRead::Refused(why) => JobRead::Refused(why),
-        JobRead::Done(s) => {
-            if over(s) {
-                return JobRead::Refused(JobRefusal::OverBound);
-            }
-            JobRead::Done(s)
-        }
+    let s = counted(bytes)?;
+    if over(s) {
+        return Err(JobRefusal::OverBound);
     }
+    Ok(s)
 }

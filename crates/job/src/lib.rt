@@ -8,9 +8,9 @@ ghost use Rattle.std.specs.Prelude.{◌≡◌};
 ghost use Rattle.standard.specs.Answers.{of_job_read};
 ghost use Rattle.standard.specs.Job.{job_of, open_answer, open_room};
 
-use crate::entries::{signed_section, unsigned_section};
+use crate::entries::{TwosComplement, Unsigned, section};
 use crate::form::form;
-use standard::JobRead;
+use standard::{JobRefusal, Sections};
 
 // Reads a job: frame numbers and counts, and the entries of the other sections to the start of the room that is lent for each. Where it
 // gives a number, all room is as it was.
@@ -19,23 +19,15 @@ pub fn read_job(
     units: &mut [i32; 20],
     deblocked: &mut [i32; 1024],
     cdef: &mut [i32; 1024],
-) -> JobRead
+) -> Result<Sections, JobRefusal>
     ensures result_value { of_job_read result ≡ open_answer bytes.now }
     ensures units_after { units.new ≡ open_room bytes.now (job_of bytes.now).units units.old }
     ensures deblocked_after { deblocked.new ≡ open_room bytes.now (job_of bytes.now).deblocked deblocked.old }
     ensures cdef_after { cdef.new ≡ open_room bytes.now (job_of bytes.now).cdef cdef.old }
 {
-    let t = form(bytes);
-    match t {
-        JobRead::Refused(why) => JobRead::Refused(why),
-        JobRead::Done(s) => {
-            let u = s.units;
-            let d = s.deblocked;
-            let c = s.cdef;
-            signed_section(units, bytes, 10, u);
-            unsigned_section(deblocked, bytes, 11 + u, d);
-            unsigned_section(cdef, bytes, 12 + u + d, c);
-            JobRead::Done(s)
-        }
-    }
+    let s = form(bytes)?;
+    section::<TwosComplement>(units, bytes, 10, s.units);
+    section::<Unsigned>(deblocked, bytes, 11 + s.units, s.deblocked);
+    section::<Unsigned>(cdef, bytes, 12 + s.units + s.deblocked, s.cdef);
+    Ok(s)
 }

@@ -13,6 +13,7 @@ pub mod ReadBack
 pub mod Index
 pub mod Runs
 pub mod Lists
+pub mod Parts
 pub mod Rows
 pub mod Paint
 pub mod Cover

@@ -7,18 +7,19 @@ ghost use Rattle.standard.specs.Depths as depths;
 
 use standard::Depth;
 
+#[tactic(auto, unfolding(standard::specs::Depths::depth_of))]
 pub fn depth_of(bits: u32) -> Depth
     ensures { result ≡ depths.depth_of bits }
 {
-    if bits == 8 {
-        return Depth::Eight;
+    match bits {
+        8 => Depth::Eight,
+        10 => Depth::Ten,
+        _ => Depth::Twelve,
     }
-    if bits == 10 {
-        return Depth::Ten;
-    }
-    Depth::Twelve
 }
 
+// Stays, with the five after it, though one function of three constants could stand for all: it would leave the names of the
+// specification to its callers.
 pub fn bits(d: Depth) -> u32
     ensures { result ≡ depths.bits d }
 {
@@ -49,6 +50,7 @@ pub fn r1(d: Depth) -> u32
     }
 }
 
+#[tactic(auto, unfolding(standard::specs::Depths::largest))]
 pub fn largest(d: Depth) -> i32
     ensures { result ≡ pos (depths.largest d) }
 {
@@ -59,6 +61,7 @@ pub fn largest(d: Depth) -> i32
     }
 }
 
+#[tactic(auto, unfolding(standard::specs::Depths::offset))]
 pub fn offset(d: Depth) -> i32
     ensures { result ≡ pos (depths.offset d) }
 {
@@ -69,6 +72,7 @@ pub fn offset(d: Depth) -> i32
     }
 }
 
+#[tactic(auto, unfolding(standard::specs::Depths::limit))]
 pub fn limit(d: Depth) -> i32
     ensures { result ≡ pos (depths.limit d) }
 {
@@ -90,7 +94,7 @@ pub fn round2(x: i32, n: u32) -> i32
     (x + (1 << (n - 1))) >> n
 }
 
-// Round2 of an unsigned number.
+// Round2 of an unsigned number. Stays beside the other: one for both types would need a trait for the shift, the sum and their laws.
 pub fn round2_u32(x: u32, n: u32) -> u32
     requires { (n ≤ 20) × (x ≤ 2147483648) }
     ensures { result ≡ arithmetic.round_ℕ n x }
@@ -105,12 +109,12 @@ pub fn clip3(lo: i32, hi: i32, x: i32) -> i32
     ensures { result ≡ arithmetic.clip3 lo hi x }
 {
     if x < lo {
-        return lo;
+        lo
+    } else if hi < x {
+        hi
+    } else {
+        x
     }
-    if hi < x {
-        return hi;
-    }
-    x
 }
 
 // Clip1 of the depth whose largest sample is `top`.
@@ -118,11 +122,5 @@ pub fn clip1(top: i32, x: i32) -> i32
     requires { pos 0 ≤ℤ top }
     ensures { result ≡ pos (arithmetic.clip_to (nat_abs top) x) }
 {
-    if x < 0 {
-        return 0;
-    }
-    if top < x {
-        return top;
-    }
-    x
+    x.clamp(0, top)
 }

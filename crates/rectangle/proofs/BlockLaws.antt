@@ -1,15 +1,13 @@
 -- Two rectangles side by side are one: runs at places apart may be written in either order, so row by row the two parts join.
 use mathlib.Core.Path.{◌≡◌, refl, ◌∙◌, ap}
 use mathlib.Core.List.{List}
-use Prim.Native.Nat.{ℕ, zero, suc, ◌+◌, ◌*◌, ◌-◌, ◌<◌, ◌≤◌}
+use Prim.Native.Nat.{ℕ, zero, suc, ◌+◌, ◌*◌, ◌<◌, ◌≤◌}
 use native.Mathlib.Omega.{arith}
-use lib.IntN.{ℤ}
 use lib.ListN.{set}
 use Rattle.laws.specs.Index.{row_le}
 use Rattle.laws.specs.Runs.{stamp, stamp_set, stamp_join}
 use Rattle.laws.specs.Rows.{rows, rows_same}
 use Rattle.laws.specs.Paint.{paint}
-use Rattle.wiener.specs.Passes.{TapRows}
 
 module _ {A : Type 0} where
   stamp_stamp : (f g : ℕ → A) (at n i m : ℕ) (l : List A) → at + n ≤ i → stamp f at n (stamp g i m l) ≡ stamp g i m (stamp f at n l)
@@ -41,16 +39,10 @@ module _ {A : Type 0} where
   paint_none x0 y0 zero w f d = refl
   paint_none x0 y0 (suc n) w f d = paint_none x0 y0 n w f d
 
-  -- a rectangle that is painted on to the right, up to column x so far
-  pub paint_on : (x0 y0 x n rh w : ℕ) (f : ℕ → ℕ → A) (d l m : List A) → x0 ≤ x → l ≡ paint x0 y0 (x - x0) rh w f d → m ≡ paint x y0 n rh w f l → x + n ≤ w → m ≡ paint x0 y0 (x + n - x0) rh w f d
-  paint_on x0 y0 x n rh w f d l m p e g h =
-      let v : ℕ = x - x0 in
-      g ∙ rows_same _ (λ y k. f (y0 + y) (x0 + (v + k))) (y0 * w + x) w n rh l (λ y k q r. ap (f (y0 + y)) (omega arith))
+  -- a rectangle that is painted on to the right, v columns so far
+  pub paint_on : (x0 y0 v n rh w : ℕ) (f : ℕ → ℕ → A) (d l m : List A) → l ≡ paint x0 y0 v rh w f d → m ≡ paint (x0 + v) y0 n rh w f l → x0 + v + n ≤ w → m ≡ paint x0 y0 (v + n) rh w f d
+  paint_on x0 y0 v n rh w f d l m e g h =
+      g ∙ rows_same _ (λ y k. f (y0 + y) (x0 + (v + k))) (y0 * w + (x0 + v)) w n rh l (λ y k q r. ap (f (y0 + y)) (omega arith))
       ∙ ap (λ (i : ℕ). rows (λ y k. f (y0 + y) (x0 + (v + k))) i w n rh l) {y = y0 * w + x0 + v} (omega arith)
       ∙ ap (rows (λ y k. f (y0 + y) (x0 + (v + k))) (y0 * w + x0 + v) w n rh) e
       ∙ rows_beside (λ y k. f (y0 + y) (x0 + k)) (y0 * w + x0) w v n rh d (omega arith)
-      ∙ ap (λ (k : ℕ). paint x0 y0 k rh w f d) {y = x + n - x0} (omega arith)
-
--- the taps of a block narrower than its rows
-pub block_taps : {c0 c1 c2 : ℤ} {tr : List ℤ} (n : ℕ) → n ≤ 64 → TapRows c0 c1 c2 64 tr → TapRows c0 c1 c2 n tr
-block_taps n p r = record { first = λ k h. r.first k (omega arith); second = λ k h. r.second k (omega arith); third = λ k h. r.third k (omega arith); fourth = λ k h. r.fourth k (omega arith) }

@@ -17,7 +17,8 @@ use Rattle.standard.specs.Wiener.{Grid, across, wiener}
 use Rattle.standard.specs.Fetch.{near, restored}
 use Rattle.standard.proofs.Locality.{restored_local}
 use Rattle.fetch.specs.declared.Source.{Source}
-use Rattle.fetch.specs.Source.{source_row, source_cell}
+use Rattle.fetch.specs.Source.{source_row, source_cell, Reach}
+use Rattle.fetch.proofs.Laws.{source_long}
 use Rattle.rectangle.specs.View.{view_at}
 use Rattle.wiener.specs.Passes.{biased, across_at}
 use Rattle.wiener.proofs.WindowLaws.{across_same}
@@ -51,6 +52,9 @@ pub direct_value : (d : Depth) (t : Taps) (row : List ℤ) (x0 n x : ℕ) → 3 
 direct_value d t row x0 n x p q r = ap (biased d) (across_same d t _ _ 0 0 (λ b v. ap (λ (i : ℕ). nat_abs (get_or row i (pos 0))) (near_free (length row) x0 n x b p q r v)))
 
 -- ---- a row that the source hands out
+pub handed_long : {inside beside row : List ℤ} {w h y : ℕ} (r : Source) → Reach inside beside w h r → (y0 k : ℕ) → 0 < h → row ≡ source_row inside beside w r y → y ≡ near h y0 k → length row ≡ w
+handed_long {h = h} {y} r reach y0 k p e f = ap length e ∙ source_long r reach y (omega (arith, f, near_in h y0 k p))
+
 pub handed_value : (d : Depth) (t : Taps) (inside beside : List ℤ) (w h : ℕ) (r : Source) (x0 y0 k y : ℕ) (row : List ℤ) → row ≡ source_row inside beside w r y → y ≡ near h y0 k → length row ≡ w → (x : ℕ) →
     biased d (across d t (λ _ b. nat_abs (get_or row (near (length row) x0 (x + b)) (pos 0))) 0)
     ≡ biased d (across d t (λ _ b. source_cell inside beside w r (near h y0 k) (near w x0 (x + b))) 0)

@@ -8,14 +8,15 @@ ghost use Rattle.laws.specs.Paint.{Within, paint};
 ghost use Rattle.standard.specs.Depths.{largest};
 ghost use Rattle.standard.specs.Fetch as standard_fetch;
 ghost use Rattle.standard.specs.Wiener as standard_wiener;
-ghost use Rattle.units.specs.Legal.{LegalTaps};
-ghost use Rattle.wiener.specs.Passes.{TapRows, biased};
+ghost use Rattle.wiener.specs.Passes.{biased};
 ghost use Rattle.fetch.specs.Source.{source_cell};
-ghost use Rattle.rectangle.specs.View.{view_at, Fetchable, Sides};
+ghost use Rattle.rectangle.specs.Seen.{seen};
 
-use fetch::{Source, gather_row, near, source_row};
-use standard::{Depth, Taps};
+use crate::view::View;
+use fetch::{Rect, gather_row, near};
+use standard::Depth;
 use wiener::across::across_row;
+use wiener::taps::Repeated;
 use wiener::window::down_window;
 
 // n middle values of a row from column x0 on.
@@ -26,24 +27,18 @@ fn middle_row(
     row: &[i32],
     x0: usize,
     n: usize,
-    tr: &[i16; 256],
-    t: Taps,
+    taps: &Repeated,
     d: Depth,
 )
-    requires n_in_bounds { (to + n ≤ length s.old) × (x0 + n ≤ length row.now) × (length row.now ≤ 16384) × (0 < n) × (n ≤ 64) }
-    requires legal_taps { LegalTaps t × TapRows t.h0 t.h1 t.h2 n tr.now }
+    requires n_in_bounds { (to + n ≤ length s.old) × (x0 + n ≤ length row.now) × (length row.now ≤ 16384) × (0 < n) × (n ≤ taps.now.n) }
     requires samples { Samples (largest d) 0 (length row.now) row.now }
-    ensures { s.new ≡ stamp (λ x. biased d (standard_wiener.across d t (λ _ b. nat_abs (get_or row.now (standard_fetch.near (length row.now) x0 (x + b)) (pos 0))) 0)) to n s.old }
+    ensures { s.new ≡ stamp (λ x. biased d (standard_wiener.across d taps.now.t (λ _ b. nat_abs (get_or row.now (standard_fetch.near (length row.now) x0 (x + b)) (pos 0))) 0)) to n s.old }
 {
-    if x0 < 3 {
-        clamped_row(s, to, line, row, x0, n, tr, t, d);
-        return;
+    if x0 < 3 || row.len() < x0 + n + 3 {
+        clamped_row(s, to, line, row, x0, n, taps, d);
+    } else {
+        across_row(s, to, row, x0 - 3, n, taps, d);
     }
-    if row.len() < x0 + n + 3 {
-        clamped_row(s, to, line, row, x0, n, tr, t, d);
-        return;
-    }
-    across_row(s, to, row, x0 - 3, n, tr, t, d);
 }
 
 // The same from a copy of the row's part with its columns clamped.
@@ -54,74 +49,35 @@ fn clamped_row(
     row: &[i32],
     x0: usize,
     n: usize,
-    tr: &[i16; 256],
-    t: Taps,
+    taps: &Repeated,
     d: Depth,
 )
-    requires n_in_bounds { (to + n ≤ length s.old) × (x0 + n ≤ length row.now) × (length row.now ≤ 16384) × (0 < n) × (n ≤ 64) }
-    requires legal_taps { LegalTaps t × TapRows t.h0 t.h1 t.h2 n tr.now }
+    requires n_in_bounds { (to + n ≤ length s.old) × (x0 + n ≤ length row.now) × (length row.now ≤ 16384) × (0 < n) × (n ≤ taps.now.n) }
     requires samples { Samples (largest d) 0 (length row.now) row.now }
-    ensures { s.new ≡ stamp (λ x. biased d (standard_wiener.across d t (λ _ b. nat_abs (get_or row.now (standard_fetch.near (length row.now) x0 (x + b)) (pos 0))) 0)) to n s.old }
+    ensures { s.new ≡ stamp (λ x. biased d (standard_wiener.across d taps.now.t (λ _ b. nat_abs (get_or row.now (standard_fetch.near (length row.now) x0 (x + b)) (pos 0))) 0)) to n s.old }
 {
     gather_row(line, 0, row, x0, n + 6);
-    across_row(s, to, line, 0, n, tr, t, d);
+    across_row(s, to, line, 0, n, taps, d);
 }
 
-// The horizontal pass over the rh + 6 rows that the rectangle's samples read, to the first rh + 6 rows of rw in s.
-fn across_rows<'a>(
-    s: &mut [i16],
-    inside: &'a [i32],
-    beside: &'a [i32],
-    w: usize,
-    h: usize,
-    r: Source,
-    x0: usize,
-    y0: usize,
-    rw: usize,
-    rh: usize,
-    tr: &[i16; 256],
-    t: Taps,
-    d: Depth,
-)
-    requires rw_in_bounds { ((rh + 6) * rw ≤ length s.old) × (0 < rw) × (rw ≤ 64) × (rh ≤ 64) × Within x0 y0 rw rh w h × Sides w h }
-    requires legal_taps { LegalTaps t × TapRows t.h0 t.h1 t.h2 rw tr.now }
-    requires fetchable { Fetchable (largest d) inside.now beside.now w h r }
-    ensures { s.new ≡ rows (λ k x. biased d (standard_wiener.across d t (λ _ b. source_cell inside.now beside.now w r (standard_fetch.near h y0 k) (standard_fetch.near w x0 (x + b))) 0)) 0 rw rw (rh + 6) s.old }
+// The horizontal pass over the h + 6 rows that the rectangle's samples read, to the first h + 6 rows of w in s.
+fn across_rows(s: &mut [i16], v: View<'_>, r: Rect, taps: &Repeated)
+    requires rw_in_bounds { ((r.h + 6) * r.w ≤ length s.old) × (0 < r.w) × (r.w ≤ taps.now.n) × (r.h ≤ 64) × Within r.x r.y r.w r.h v.w v.h }
+    ensures { s.new ≡ rows (λ k x. biased v.entry.depth (standard_wiener.across v.entry.depth taps.now.t (λ _ b. source_cell v.entry.inside.now v.entry.beside.now v.entry.w v.entry.source (standard_fetch.near v.entry.h r.y k) (standard_fetch.near v.entry.w r.x (x + b))) 0)) 0 r.w r.w (r.h + 6) s.old }
 {
     let mut line = [0i32; 72];
-    let n = rh + 6;
-    let mut k = 0;
-    while k < n {
-        let y = near(h, y0, k);
-        let row = source_row(inside, beside, w, h, r, y);
-        middle_row(s, k * rw, &mut line, row, x0, rw, tr, t, d);
-        k += 1;
+    for k in 0..r.h + 6 {
+        let y = near(v.h, r.y, k);
+        let row = v.row(y);
+        middle_row(s, k * r.w, &mut line, row, r.x, r.w, taps, v.depth);
     }
 }
 
-// A block; s holds its middle values. hr and vr repeat t's taps.
-pub fn wiener_block<'a>(
-    out: &mut [i32],
-    inside: &'a [i32],
-    beside: &'a [i32],
-    w: usize,
-    h: usize,
-    r: Source,
-    x0: usize,
-    y0: usize,
-    rw: usize,
-    rh: usize,
-    s: &mut [i16],
-    hr: &[i16; 256],
-    vr: &[i16; 256],
-    t: Taps,
-    d: Depth,
-)
-    requires w_in_bounds { (h * w ≤ length out.old) × ((rh + 6) * rw ≤ length s.old) × (0 < rw) × (rw ≤ 64) × (0 < rh) × (rh ≤ 64) × Within x0 y0 rw rh w h × Sides w h }
-    requires legal_taps { LegalTaps t × TapRows t.h0 t.h1 t.h2 rw hr.now × TapRows t.v0 t.v1 t.v2 rw vr.now }
-    requires fetchable { Fetchable (largest d) inside.now beside.now w h r }
-    ensures { out.new ≡ paint x0 y0 rw rh w (λ y x. pos (standard_wiener.wiener d t (view_at inside.now beside.now w h r y x))) out.old }
+// A block; s holds its middle values.
+pub fn wiener_block(out: &mut [i32], v: View<'_>, r: Rect, s: &mut [i16], taps: &Repeated)
+    requires w_in_bounds { (v.h * v.w ≤ length out.old) × ((r.h + 6) * r.w ≤ length s.old) × (0 < r.w) × (r.w ≤ taps.now.n) × (0 < r.h) × (r.h ≤ 64) × Within r.x r.y r.w r.h v.w v.h }
+    ensures { out.new ≡ paint r.x r.y r.w r.h v.entry.w (λ y x. pos (standard_wiener.wiener v.entry.depth taps.now.t (seen v.entry y x))) out.old }
 {
-    across_rows(s, inside, beside, w, h, r, x0, y0, rw, rh, hr, t, d);
-    down_window(out, y0 * w + x0, w, s, rw, rh, vr, t, d);
+    across_rows(s, v, r, taps);
+    down_window(out, r.y * v.w + r.x, v.w, s, r.w, r.h, taps, v.depth);
 }

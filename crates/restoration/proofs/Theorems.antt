@@ -4,8 +4,9 @@ use mathlib.Core.List.{List}
 use Prim.Native.Nat.{ℕ}
 use lib.IntN.{ℤ}
 use lib.ListN.{length}
+use Rattle.std.specs.Prelude.{Result}
 use Rattle.standard.specs.declared.Frame.{Frame}
-use Rattle.standard.specs.declared.Restored.{Restored}
+use Rattle.standard.specs.declared.Refusal.{Refusal}
 use Rattle.standard.specs.Answers.{of_restored}
 use Rattle.standard.specs.Calls.{plane_answer, plane_out}
 use Rattle.standard.specs.Refusals.{first, plane_tests}
@@ -13,7 +14,7 @@ use Rattle.standard.proofs.Answers.{restored_once}
 use Rattle.restoration.proofs.Answers.{out_refused}
 
 module _ (f : Frame) (table D C out : List ℤ) (scratch : ℕ) where
-  pub plane_once : (r s : Restored) (o p : List ℤ) → of_restored r ≡ plane_answer f table D C (length out) scratch → of_restored s ≡ plane_answer f table D C (length out) scratch →
+  pub plane_once : (r s : Result ℕ Refusal) (o p : List ℤ) → of_restored r ≡ plane_answer f table D C (length out) scratch → of_restored s ≡ plane_answer f table D C (length out) scratch →
       o ≡ plane_out f table D C out scratch → p ≡ plane_out f table D C out scratch → (r ≡ s) × (o ≡ p)
   plane_once r s o p a b c d = (restored_once r s (a ∙ sym b), c ∙ sym d)
 

@@ -30,13 +30,16 @@ use Rattle.units.proofs.Legal.{legal_at}
 use Rattle.asked.proofs.Numbers.{unit_counts}
 use Rattle.geometry.proofs.Laws.{stripes_small}
 use Rattle.fetch.specs.declared.Source.{Source}
-use Rattle.rectangle.specs.View.{shown_at, Own}
+use Rattle.rectangle.specs.View.{shown_at, Own, Sides}
 use Rattle.restoration.specs.Asked.{Asked, Stripe, unit_shown}
 use Rattle.restoration.proofs.Sizes.{Fit, fit, unit_below}
 
 module _ {f : Frame} {table : List ℤ} {scratch : ℕ} (a : Asked f table scratch) where
   pub sized : Sized (sub_y_of f) f.unit_size
   sized = sized_of f a.plane a.size
+
+  pub sides : Sides (plane_width f) (plane_height f)
+  sides = record { wide = a.legal.cols; high = a.legal.rows; wide_low = a.legal.cols_low; high_low = a.legal.rows_low }
 
   abbrev pub entry : ℕ → ℕ
   entry k = (rectangle (sub_y_of f) f.unit_size (plane_height f) (plane_width f) k).unit_row * units (plane_width f) f.unit_size + (rectangle (sub_y_of f) f.unit_size (plane_height f) (plane_width f) k).unit_col

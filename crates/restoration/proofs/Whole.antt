@@ -8,10 +8,7 @@ use native.Mathlib.Nat.{add-mul, zero-mul}
 use lib.Arith.{digits_div}
 use lib.Dec.{ltb}
 use lib.IntN.{ℤ, pos}
-use lib.ListN.{length, get_or}
-use Rattle.laws.specs.Lists.{listing, at_listing}
-use Rattle.standard.specs.SelfGuided.{a2_of}
-use Rattle.boxes.specs.Tables.{A2Table}
+use lib.ListN.{length}
 use Rattle.laws.specs.Bounds.{Samples, samples_lent}
 use Rattle.laws.specs.Cover.{Painted, painted_same, painted_join, painted_all, painted_none}
 use Rattle.laws.specs.Tests.{Test, below, above, test}
@@ -29,10 +26,10 @@ use Rattle.standard.proofs.Rectangles.{index_of, cover, col_below}
 use Rattle.fetch.specs.declared.Source.{Source}
 use Rattle.fetch.specs.Source.{row_of, over_row, under_row, inside_row, source_row, Reach, whole_source}
 use Rattle.fetch.proofs.Sources.{whole_reach, whole_cell}
-use Rattle.rectangle.specs.View.{Fetchable, shown_at}
+use Rattle.rectangle.specs.View.{Fetchable, Sides, shown_at}
 use Rattle.rectangle.proofs.SharpLaws.{near_in}
 use Rattle.restoration.specs.Asked.{Asked, Stripe, unit_shown}
-use Rattle.restoration.proofs.Units.{sized, in_stripe}
+use Rattle.restoration.proofs.Units.{sized, sides, in_stripe}
 
 -- ---- rows that are handed out hold samples
 source_samples : {m w h : ℕ} {inside beside : List ℤ} (r : Source) → Reach inside beside w h r → Samples m 0 (length inside) inside → Samples m 0 (length beside) beside → (y : ℕ) → y < h → Samples m 0 w (source_row inside beside w r y)
@@ -92,9 +89,9 @@ module _ {f : Frame} {table : List ℤ} {scratch : ℕ} (a : Asked f table scrat
       (painted_same _ _ _ _ _ _ _ _ _ restored_sample (λ y x p q r o. shown y x p q (stripe_named y x r o)) v))
 
   -- the same by the values that the code holds
-  pub stripe_asked : (r : Source) → r ≡ whole_source (sub_y_of f) at → (e : Depth) → e ≡ depth_of f.depth → length C ≡ samples f → length D ≡ samples f →
-      Samples (largest (depth_of f.depth)) 0 (samples f) C → Samples (largest (depth_of f.depth)) 0 (samples f) D → Stripe f at r × Fetchable (largest e) C D (plane_width f) (plane_height f) r
-  stripe_asked r er e ed c d u v = rw (er, ed) (record { start = refl; stop = refl }, whole_fetched (largest (depth_of f.depth)) c d u v)
+  pub stripe_asked : (r : Source) → r ≡ whole_source (sub_y_of f) at → (e : Depth) → e ≡ depth_of f.depth → (w h : ℕ) → w ≡ plane_width f → h ≡ plane_height f → length C ≡ samples f → length D ≡ samples f →
+      Samples (largest (depth_of f.depth)) 0 (samples f) C → Samples (largest (depth_of f.depth)) 0 (samples f) D → Stripe f at r × Fetchable (largest e) C D w h r × Sides w h
+  stripe_asked r er e ed w h ew eh c d u v = rw (er, ed, ew, eh) (record { start = refl; stop = refl }, whole_fetched (largest (depth_of f.depth)) c d u v, sides a)
 
   pub stripe_added : (r : Source) → r ≡ whole_source (sub_y_of f) at → (e : Depth) → e ≡ depth_of f.depth → (d s t : List ℤ) →
       Painted (index_of (sub_y_of f) f.unit_size (plane_width f)) (plane_width f) (plane_height f) restored_sample (pos 0) 0 (at * units (plane_width f) f.unit_size) d s →
@@ -112,17 +109,6 @@ unfolding restored_slice tabled rectangles
 whole_painted {f = f} a D C d t k e long u =
     painted_all _ _ _ _ _ _ _ (cover (sized a) (plane_height f) (plane_width f) a.legal.rows a.legal.cols) (k * units (plane_width f) f.unit_size) t refl
     (omega (arith, ap (λ (n : ℕ). n * units (plane_width f) f.unit_size) e)) long u
-
--- ---- a source by its numbers
-abbrev of_numbers : ℕ → ℕ → ℕ → ℕ → ℕ → Source
-of_numbers a b i o u = record { start = a; stop = b; inside = i; over = o; under = u }
-
-pub source_is : (a b o s e n : ℕ) → a ≡ s → b ≡ e → o ≡ n → of_numbers a b a o b ≡ of_numbers s e s n e
-source_is a b o s e n p q r = rw (p, q, r)
-
--- the table of a2
-pub a2_table : (t : List ℤ) → t ≡ listing 256 (λ z. pos (a2_of z)) → A2Table t
-a2_table t e = record { holds = λ z h. ap (λ (l : List ℤ). get_or l z (pos 0)) e ∙ at_listing 256 (λ z. pos (a2_of z)) (pos 0) z h }
 
 -- before the first stripe
 pub none_painted : (num : ℕ → ℕ → ℕ) (w h : ℕ) (f : ℕ → ℕ → ℤ) (z : ℤ) (u : ℕ) (d : List ℤ) → Painted num w h f z 0 (0 * u) d d

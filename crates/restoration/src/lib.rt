@@ -14,7 +14,7 @@ use crate::planes::restore_stripes;
 use asked::plane_tests;
 use counted::count_changed;
 use runs::copy_run;
-use standard::{Frame, Restored, Stored};
+use standard::{Frame, Refusal};
 
 // Restores a plane to out and counts the samples that differ from the CDEF plane's; a refused call leaves out and scratch as they were.
 pub fn restore_plane<'a>(
@@ -24,20 +24,14 @@ pub fn restore_plane<'a>(
     cdef: &'a [i32],
     out: &mut [i32],
     scratch: &mut [i32],
-) -> Restored
+) -> Result<u32, Refusal>
     ensures result_value { of_restored result ≡ plane_answer f table.now deblocked.now cdef.now (length out.old) (length scratch.old) }
     ensures out_after { out.new ≡ plane_out f table.now deblocked.now cdef.now out.old (length scratch.old) }
     ensures scratch_unchanged { (first (plane_tests f table.now deblocked.now cdef.now (length out.old) (length scratch.old)) ≡ 0 → ⊥) → scratch.new ≡ scratch.old }
 {
-    let t = plane_tests(f, table, deblocked, cdef, out.len(), scratch.len());
-    match t {
-        Stored::Refused(why) => Restored::Refused(why),
-        Stored::Done => {
-            write_plane(f, table, deblocked, cdef, out, scratch);
-            let changed = count_changed(out, cdef);
-            Restored::Done(changed)
-        }
-    }
+    plane_tests(f, table, deblocked, cdef, out.len(), scratch.len())?;
+    write_plane(f, table, deblocked, cdef, out, scratch);
+    Ok(count_changed(out, cdef))
 }
 
 // The plane, once no number is given: with frame type 0 the CDEF plane itself.

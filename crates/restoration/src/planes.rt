@@ -9,11 +9,12 @@ ghost use Rattle.fetch.specs.Source.{whole_source};
 ghost use Rattle.restoration.specs.Asked.{Asked};
 
 use crate::rectangles::restore_rectangles;
-use boxes::rows::table as a2_table;
+use boxes::table::A2;
 use fetch::Source;
 use frames::{extent, sub_of};
 use geometry::stripes::{stripe_start, stripe_stop, stripes};
 use numbers::depth_of;
+use rectangle::view::View;
 use standard::Frame;
 
 // Where stripe s of a plane has its rows: its own in one plane, those beside it in the other.
@@ -23,20 +24,11 @@ fn whole_source(sub_y: u32, s: u32) -> Source
 {
     let start = stripe_start(sub_y, s) as usize;
     let stop = stripe_stop(sub_y, s) as usize;
-    if start < 2 {
-        return Source {
-            start: start,
-            stop: stop,
-            inside: start,
-            over: 0,
-            under: stop,
-        };
-    }
     Source {
-        start: start,
-        stop: stop,
+        start,
+        stop,
         inside: start,
-        over: start - 2,
+        over: start.saturating_sub(2),
         under: stop,
     }
 }
@@ -54,15 +46,23 @@ pub fn restore_stripes<'a>(
     requires samples { Samples (largest (depth_of f.depth)) 0 (samples f) cdef.now × Samples (largest (depth_of f.depth)) 0 (samples f) deblocked.now }
     ensures { out.new ≡ restored_slice (shape_of f table.now) deblocked.now cdef.now }
 {
-    let d = depth_of(f.depth);
+    let depth = depth_of(f.depth);
     let own = sub_of(f.plane, f.sub_y);
-    let n = stripes(own, extent(f.plane, f.sub_y, f.frame_height));
-    let mut tab = [0i32; 256];
-    a2_table(&mut tab);
-    let mut at: u32 = 0;
-    while at < n {
-        let r = whole_source(own, at);
-        restore_rectangles(out, cdef, deblocked, f, r, at, table, s, d, &tab);
-        at += 1;
+    let w = extent(f.plane, f.sub_x, f.upscaled_width) as usize;
+    let rows = extent(f.plane, f.sub_y, f.frame_height);
+    let h = rows as usize;
+    let n = stripes(own, rows);
+    let tab = A2::new();
+    for at in 0..n {
+        let source = whole_source(own, at);
+        let v = View {
+            inside: cdef,
+            beside: deblocked,
+            w,
+            h,
+            source,
+            depth,
+        };
+        restore_rectangles(out, v, f, at, table, s, &tab);
     }
 }

@@ -10,23 +10,16 @@ pub fn copy_run(dst: &mut [i32], to: usize, src: &[i32], from: usize, n: usize)
     requires { (to + n ≤ length dst.old) × (from + n ≤ length src.now) }
     ensures { dst.new ≡ stamp (λ x. get_or src.now (from + x) (pos 0)) to n dst.old }
 {
-    let mut x = 0;
-    while x < n {
-        dst[to + x] = src[from + x];
-        x += 1;
-    }
+    dst[to..to + n].copy_from_slice(&src[from..from + n]);
 }
 
-// The sample at `from`, n times, at place `to` of dst.
-pub fn repeat_run(dst: &mut [i32], to: usize, src: &[i32], from: usize, n: usize)
-    requires { (to + n ≤ length dst.old) × (from < length src.now) }
-    ensures { dst.new ≡ stamp (λ x. get_or src.now from (pos 0)) to n dst.old }
+// A value, n times, at place `to` of dst.
+pub fn repeat_run<T: Copy>(dst: &mut [T], to: usize, v: T, n: usize)
+    requires n_in_bounds { to + n ≤ length dst.old }
+    requires copied { T.is_infallible v × ((y : T) → T.is_clone v y → y ≡ v) }
+    ensures { dst.new ≡ stamp (λ x. v) to n dst.old }
 {
-    let mut x = 0;
-    while x < n {
-        dst[to + x] = src[from];
-        x += 1;
-    }
+    dst[to..to + n].fill(v);
 }
 
 // A number that fits 16 bits, in 16 bits.
@@ -43,24 +36,16 @@ pub fn narrow_run(dst: &mut [i16], to: usize, src: &[i32], from: usize, n: usize
     requires sized { Sized 32767 from (from + n) src.now }
     ensures { dst.new ≡ stamp (λ x. get_or src.now (from + x) (pos 0)) to n dst.old }
 {
-    let mut x = 0;
-    while x < n {
-        let v = narrow(src[from + x]);
-        dst[to + x] = v;
-        x += 1;
+    for x in 0..n {
+        dst[to + x] = narrow(src[from + x]);
     }
 }
 
-// `repeat_run` into 16 bits.
+// The sample at `from`, n times, in 16 bits.
 pub fn repeat_narrow(dst: &mut [i16], to: usize, src: &[i32], from: usize, n: usize)
     requires n_in_bounds { (to + n ≤ length dst.old) × (from < length src.now) }
     requires sized { Sized 32767 from (from + 1) src.now }
     ensures { dst.new ≡ stamp (λ x. get_or src.now from (pos 0)) to n dst.old }
 {
-    let mut x = 0;
-    while x < n {
-        let v = narrow(src[from]);
-        dst[to + x] = v;
-        x += 1;
-    }
+    repeat_run(dst, to, narrow(src[from]), n);
 }

@@ -6,7 +6,6 @@ use native.Mathlib.Omega.{arith}
 use lib.IntN.{ℤ, pos, nat_abs}
 use lib.ListN.{length, get_or}
 use Rattle.laws.specs.Congruence.{ap5}
-use Rattle.laws.specs.Lists.{listing, at_listing}
 use Rattle.laws.specs.Rows.{rows, rows_inside}
 use Rattle.standard.specs.declared.Depth.{Depth}
 use Rattle.standard.specs.declared.Taps.{Taps}
@@ -14,11 +13,10 @@ use Rattle.standard.specs.declared.Weights.{Weights}
 use Rattle.standard.specs.declared.Kind.TheVariants.{Wiener, SelfGuided}
 use Rattle.standard.specs.Fetch.{restored}
 use Rattle.standard.specs.Wiener.{wiener}
-use Rattle.standard.specs.SelfGuided.{self_guided, a2_of}
+use Rattle.standard.specs.SelfGuided.{self_guided}
 use Rattle.standard.proofs.Locality.{restored_local}
 use Rattle.standard.proofs.Parity.{restored_parity}
 use Rattle.wiener.specs.Passes.{seen}
-use Rattle.boxes.specs.Tables.{A2Table}
 use Rattle.selfguided.specs.Windows.{Rows}
 use Rattle.sample.specs.Seen.{seen_at}
 
@@ -39,10 +37,6 @@ unfolding restored seen_at
 guided_seen d odd row g s e =
     restored_local (record { same = λ i j p q. ap (λ (k : ℕ). nat_abs (get_or s k (pos 0))) (omega arith) }) d (odd + 0) (SelfGuided g)
     ∙ ap (λ (y : ℕ). restored d y (SelfGuided g) (seen_at s)) (omega (arith, e)) ∙ sym (restored_parity d row (SelfGuided g) (seen_at s))
-
--- ---- what the self-guided filter asks
-pub table_holds : (t : List ℤ) → t ≡ listing 256 (λ z. pos (a2_of z)) → A2Table t
-table_holds t e = record { holds = λ z h. ap (λ (l : List ℤ). get_or l z (pos 0)) e ∙ at_listing 256 (λ z. pos (a2_of z)) (pos 0) z h }
 
 -- ---- ten numbers as they are read
 pub ten : {a b c d e f g h i j a' b' c' d' e' f' g' h' i' j' : ℤ} → a ≡ a' → b ≡ b' → c ≡ c' → d ≡ d' → e ≡ e' → f ≡ f' → g ≡ g' → h ≡ h' → i ≡ i' → j ≡ j' →

@@ -20,12 +20,12 @@ use Rattle.standard.specs.declared.Refusal.TheVariants.{BadDepth, BadPlane, BadF
 use Rattle.standard.specs.Answers.{refusal_number}
 use Rattle.standard.specs.Depths.{bits, largest, depth_of}
 use Rattle.standard.specs.Units.{between, legal_entry, kind_of}
-use Rattle.standard.specs.Refusals.{first, no1, wide, sample_tests}
+use Rattle.standard.specs.Refusals.{first, no1, no15, wide, sample_tests}
 use Rattle.standard.specs.Calls.{byte_window, sample_answer}
 use Rattle.standard.specs.Fetch.{restored}
 use Rattle.standard.proofs.Locality.{Agree, restored_local}
 use Rattle.standard.proofs.Refusals.{sample_table}
-use Rattle.units.specs.First.{first_failing, first_outside, in_range, fails_below}
+use Rattle.units.specs.First.{first_failing, first_outside, in_range, fails_below, no15_first}
 use Rattle.units.proofs.Depths.{bits_of}
 use Rattle.sample.specs.Seen.{seen_at}
 
@@ -67,11 +67,12 @@ module _ (bytes : List ℕ) (d s : List ℤ) (e : s ≡ stamp (λ k. pos (wide b
   pub unpacked_at : (k : ℕ) → k < 49 → get_or s k (pos 0) ≡ pos (wide bytes k)
   unpacked_at k p = stamp_at (λ k. pos (wide bytes k)) 0 49 d s k k (pos 0) e (omega arith) p (omega arith)
 
-  pub outside_is : (depth r : ℕ) → length d ≡ 49 → r ≡ first_outside depth s → ltb r 49 ≡ not (in_depth depth bytes)
+  pub outside_is : (depth : ℕ) → length d ≡ 49 → no15 depth s ≡ not (in_depth depth bytes)
   unfolding first_outside in_range
-  outside_is depth r h q =
-      ap (λ (k : ℕ). ltb k 49) (q ∙ ap (λ (n : ℕ). first_failing n (in_range (pos (2 ^ depth - 1)) s)) (ap length e ∙ stamp_length (λ k. pos (wide bytes k)) 0 49 d ∙ h)
-      ∙ first_same 49 _ _ (λ k p. ap (between (pos 0) (pos (2 ^ depth - 1))) (unpacked_at k p) ∙ ap (λ (b : Bool). b && leb (wide bytes k) (2 ^ depth - 1)) (leb-zero (wide bytes k))))
+  outside_is depth h =
+      let long = ap length e ∙ stamp_length (λ k. pos (wide bytes k)) 0 49 d ∙ h in
+      no15_first depth s ∙ ap (λ (n : ℕ). ltb (first_failing n (in_range (pos (2 ^ depth - 1)) s)) n) long
+      ∙ ap (λ (k : ℕ). ltb k 49) (first_same 49 _ _ (λ k p. ap (between (pos 0) (pos (2 ^ depth - 1))) (unpacked_at k p) ∙ ap (λ (b : Bool). b && leb (wide bytes k) (2 ^ depth - 1)) (leb-zero (wide bytes k))))
       ∙ sym (fails_below 49 (λ k. leb (wide bytes k) (2 ^ depth - 1)))
 
   pub seen_bytes : Agree (seen_at s) (byte_window bytes)

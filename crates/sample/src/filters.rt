@@ -8,7 +8,7 @@ ghost use Rattle.standard.specs.SelfGuided.{self_guided};
 ghost use Rattle.units.specs.Legal.{LegalTaps, LegalWeights, LegalKind};
 ghost use Rattle.sample.specs.Seen.{seen_at};
 
-use boxes::rows::table;
+use boxes::table::A2;
 use selfguided::selfguided_window;
 use standard::{Depth, Kind, Taps, Weights};
 use wiener::window::wiener_window;
@@ -28,8 +28,7 @@ pub fn guided_sample(s: &mut [i32], row: u32, weights: Weights, d: Depth) -> i32
     ensures { result ≡ pos (self_guided d row weights (seen_at s.old)) }
 {
     let mut out = [0i32; 1];
-    let mut tab = [0i32; 256];
-    table(&mut tab);
+    let tab = A2::new();
     let odd = (row % 2) as usize;
     selfguided_window(&mut out, 0, 1, s, 1, 1, odd, weights, d, &tab);
     out[0]

@@ -12,9 +12,7 @@ ghost use Rattle.standard.specs.Refusals.{sample_tests, first};
 use crate::bytes::unpack;
 use crate::filters::kind_sample;
 use crate::tests::sample_tests;
-use frames::number;
 use numbers::depth_of;
-use standard::Stored;
 use units::unit_at;
 
 // The restored sample, or minus the number: type, three vertical and three horizontal coefficients, set and weights, and 98 bytes.
@@ -41,20 +39,17 @@ pub fn restore_sample(
 
 // The same from the ten numbers as an entry of a unit table.
 fn entry_sample(depth: u32, row: u32, entry: &[i32; 10], bytes: &[u8]) -> i32
-    requires { length entry.now ≡ 10 }
     ensures { result ≡ sample_answer depth row entry.now bytes.now }
 {
-    let t = sample_tests(depth, entry, bytes);
-    match t {
-        Stored::Refused(why) => -(number(why) as i32),
-        Stored::Done => passed_sample(depth, row, entry, bytes),
+    match sample_tests(depth, entry, bytes) {
+        Err(why) => -(u32::from(why) as i32),
+        Ok(()) => passed_sample(depth, row, entry, bytes),
     }
 }
 
 // The sample, once no number is given.
 fn passed_sample(depth: u32, row: u32, entry: &[i32; 10], bytes: &[u8]) -> i32
-    requires len { length entry.now ≡ 10 }
-    requires bytes_value { first (sample_tests depth entry.now bytes.now) ≡ 0 }
+    requires { first (sample_tests depth entry.now bytes.now) ≡ 0 }
     ensures { result ≡ sample_answer depth row entry.now bytes.now }
 {
     let mut s = [0i32; 486];

@@ -6,27 +6,26 @@ ghost use Rattle.standard.specs.Refusals.{sample_tests, first, no1, wide};
 
 use crate::bytes::unpack;
 use frames::bad_depth;
-use standard::{Refusal, Stored};
+use standard::Refusal;
 use units::legal_entry;
-use units::samples::first_outside;
+use units::samples::out_of_range;
 
-pub fn sample_tests(depth: u32, entry: &[i32; 10], bytes: &[u8]) -> Stored
-    requires { length entry.now ≡ 10 }
+pub fn sample_tests(depth: u32, entry: &[i32; 10], bytes: &[u8]) -> Result<(), Refusal>
     ensures { of_stored result ≡ first (sample_tests depth entry.now bytes.now) }
 {
     if bad_depth(depth) {
-        return Stored::Refused(Refusal::BadDepth);
+        return Err(Refusal::BadDepth);
     }
     if bytes.len() != 98 {
-        return Stored::Refused(Refusal::BadShape);
+        return Err(Refusal::BadShape);
     }
     if !legal_entry(0, entry, 0) {
-        return Stored::Refused(Refusal::BadUnit);
+        return Err(Refusal::BadUnit);
     }
     if outside(depth, bytes) {
-        return Stored::Refused(Refusal::BadSample);
+        return Err(Refusal::BadSample);
     }
-    Stored::Done
+    Ok(())
 }
 
 // Whether one of the 49 samples is not one of the depth.
@@ -36,5 +35,5 @@ fn outside(depth: u32, bytes: &[u8]) -> bool
 {
     let mut s = [0i32; 49];
     unpack(&mut s, bytes);
-    first_outside(&s, depth) < 49
+    out_of_range(&s, depth)
 }

@@ -14,18 +14,16 @@ use Rattle.standard.specs.declared.Weights.{Weights}
 use Rattle.standard.specs.declared.Kind.TheVariants.{SelfGuided}
 use Rattle.standard.specs.Depths.{largest}
 use Rattle.standard.specs.Fetch.{restored}
-use Rattle.standard.specs.SelfGuided.{scale, a2_at, b2_at, self_guided}
+use Rattle.standard.specs.SelfGuided.{a2_at, b2_at, self_guided}
 use Rattle.standard.proofs.Locality.{Agree, restored_local}
-use Rattle.boxes.specs.declared.scale.Scale.{Scale}
 use Rattle.boxes.specs.Reads.{seen}
-use Rattle.boxes.specs.Scales.{ScaleOf}
 use Rattle.boxes.specs.BoxRows.{Kept}
 use Rattle.boxes.proofs.RunLaws.{run_same, run_kept, kept_on, kept_none, samples_kept}
 use Rattle.boxes.proofs.BoxLaws.{a2_moved, b2_moved}
 use Rattle.selfguided.specs.declared.parameters.Params.{Params}
 use Rattle.selfguided.specs.Areas.{lines, six_a, cross_a}
-use Rattle.selfguided.specs.Parameters.{ParamsOf, EpsFor}
-use Rattle.selfguided.specs.Passes.{Pass, Sixed, Crossed, counted}
+use Rattle.selfguided.specs.Parameters.{ParamsOf, EpsFor, radius_of, eps_of}
+use Rattle.selfguided.specs.Passes.{Sixed, Crossed, counted}
 use Rattle.selfguided.specs.Windows.{Window, First, Second, Ready}
 use Rattle.selfguided.proofs.WeighLaws.{six_same}
 use Rattle.selfguided.proofs.WindowLaws.{seen_from}
@@ -33,50 +31,19 @@ use Rattle.selfguided.proofs.ParamLaws.{first_present, second_present}
 use Rattle.selfguided.proofs.GuidedLaws.{window_at}
 
 -- the scratch that the call asks for has room for all areas
-pub window_of : (d : Depth) (w h odd : ℕ) {s : List ℤ} → w ≤ 383 → h ≤ 64 → odd ≤ 1 → 6 * (w + 8) * (h + 8) ≤ length s → Samples (largest d) 0 ((h + 6) * (w + 6)) s → Window d w h odd s
-window_of d w h odd p q r room S = record { width = p; height = q; parity = r; room = omega arith; samples = S }
-
--- ---- a pass with its numbers
-module _ (r eps w h odd : ℕ) (d : Depth) (z : Scale) (s : List ℤ) (W : Window d w h odd s) (Z : ScaleOf r eps d z) where
-  pub pass_of : Pass r z w h s
-  pass_of = record {
-    width = W.width;
-    height = W.height;
-    room = W.room;
-    samples = subst (λ (d : Depth). Samples (largest d) 0 (lines w h) s) (sym Z.depth_is) W.samples;
-    scaled = record { depth_is = refl; eps_is = refl; s_is = Z.s_is ∙ ap (scale r) (sym Z.eps_is); good = Z.good };
-  }
-
-  pub first_done : (q : ℕ) (t : List ℤ) → Sixed z.depth z.eps w h odd (counted h odd) s t → First q eps d w h odd s t
-  first_done q t C = record {
-    long = C.long;
-    window = C.window;
-    six = λ _. subst (λ (d : Depth). Sixed d eps w h odd (counted h odd) s t) Z.depth_is (subst (λ (e : ℕ). Sixed z.depth e w h odd (counted h odd) s t) Z.eps_is C);
-  }
-
-  pub second_done : (q : ℕ) (t : List ℤ) → Crossed z.depth z.eps w h (h + 2) s t → Second q eps d w h s t
-  second_done q t C = record {
-    long = C.long;
-    window = C.window;
-    sixes = C.sixes;
-    cross = λ _. subst (λ (d : Depth). Crossed d eps w h (h + 2) s t) Z.depth_is (subst (λ (e : ℕ). Crossed z.depth e w h (h + 2) s t) Z.eps_is C);
-  }
-
-pub first_none : (r eps w h odd : ℕ) (d : Depth) (s : List ℤ) → r ≡ 0 → First r eps d w h odd s s
-first_none r eps w h odd d s e = record { long = refl; window = kept_none _ _ s; six = λ f. absurd (f e) }
-
-pub second_none : (r eps w h : ℕ) (d : Depth) (s : List ℤ) → r ≡ 0 → Second r eps d w h s s
-second_none r eps w h d s e = record { long = refl; window = kept_none _ _ s; sixes = kept_none _ _ s; cross = λ f. absurd (f e) }
+pub window_of : {d : Depth} {w h odd : ℕ} {s : List ℤ} → (1 ≤ w) × (w ≤ 383) × (1 ≤ h) × (h ≤ 64) × (odd ≤ 1) × (6 * (w + 8) * (h + 8) ≤ length s) →
+    Samples (largest d) 0 ((h + 6) * (w + 6)) s → Window d w h odd s
+window_of r S = record { width = r.1; height = r.3; parity = r.4; room = omega (arith, r.5); samples = S }
 
 -- ---- the eps of a set
 module _ {set : ℕ} {p : Params} (P : ParamsOf set p) where
-  pub eps_first : EpsFor p.r0 p.eps0
+  pub eps_first : EpsFor (radius_of 2 p.eps0) (eps_of p.eps0)
   eps_first = record {
     low = λ f. omega (arith, P.eps0_is, (first_present set (λ e. f (P.r0_is ∙ e))).low);
     high = λ f. omega (arith, P.eps0_is, (first_present set (λ e. f (P.r0_is ∙ e))).high);
   }
 
-  pub eps_second : EpsFor p.r1 p.eps1
+  pub eps_second : EpsFor (radius_of 1 p.eps1) (eps_of p.eps1)
   eps_second = record {
     low = λ f. omega (arith, P.eps1_is, (second_present set (λ e. f (P.r1_is ∙ e))).low);
     high = λ f. omega (arith, P.eps1_is, (second_present set (λ e. f (P.r1_is ∙ e))).high);
@@ -115,12 +82,12 @@ module _ (d : Depth) (eps w h : ℕ) (s t : List ℤ) (K : Kept 0 (lines w h) s 
   }
 
 -- ---- both passes done
-pub between : (r eps w h odd : ℕ) (d : Depth) (s t : List ℤ) → Window d w h odd s → First r eps d w h odd s t → Window d w h 0 t
-between r eps w h odd d s t W A =
+pub between : {r eps w h odd : ℕ} {d : Depth} {s t : List ℤ} → Window d w h odd s → First r eps d w h odd s t → Window d w h 0 t
+between W A =
     record { width = W.width; height = W.height; parity = omega arith; room = omega (arith, A.long, W.room); samples = samples_kept W.samples A.window }
 
-module _ (d : Depth) (w h odd : ℕ) (weights : Weights) (p : Params) (P : ParamsOf weights.set p) (s t u : List ℤ)
-    (W : Window d w h odd s) (A : First p.r0 p.eps0 d w h odd s t) (B : Second p.r1 p.eps1 d w h t u) where
+module _ {d : Depth} {w h odd : ℕ} (weights : Weights) {p : Params} (P : ParamsOf weights.set p) {s t u : List ℤ}
+    (W : Window d w h odd s) (A : First (radius_of 2 p.eps0) (eps_of p.eps0) d w h odd s t) (B : Second (radius_of 1 p.eps1) (eps_of p.eps1) d w h t u) where
   kept_all : Kept 0 (lines w h) s u
   kept_all = kept_on A.window B.window
 
@@ -131,8 +98,8 @@ module _ (d : Depth) (w h odd : ℕ) (weights : Weights) (p : Params) (P : Param
     cross = λ f. crossed_here d _ w h t u B.window (subst (λ (e : ℕ). Crossed d e w h (h + 2) t u) P.eps1_is (B.cross (λ e. f (sym P.r1_is ∙ e))));
   }
 
-  pub ready_at : (e : Depth) → e ≡ d → Ready e w h odd weights u
-  ready_at e q = subst (λ (e : Depth). Ready e w h odd weights u) (sym q) ready
+  pub ready_at : {e : Depth} → e ≡ d → Ready e w h odd weights u
+  ready_at q = subst (λ (e : Depth). Ready e w h odd weights u) (sym q) ready
 
   -- the result is that of the window that the call found
   guided_same : (i j : ℕ) → i < h → j < w → self_guided d (odd + i) weights (window_at u w i j) ≡ self_guided d (odd + i) weights (window_at s w i j)
@@ -142,8 +109,8 @@ module _ (d : Depth) (w h odd : ℕ) (weights : Weights) (p : Params) (P : Param
       agree : Agree (window_at u w i j) (window_at s w i j)
       agree = record { same = λ a b x y. ap nat_abs (kept_all.same ((i + a) * (w + 6) + (j + b)) (omega arith) (omega (arith, cell_lt {y = i + a} {x = j + b} {h = h + 6} {w = w + 6} (omega arith) (omega arith)))) }
 
-  pub results : (e : Depth) → e ≡ d → (to stride : ℕ) (before after : List ℤ) → after ≡ rows (λ i j. pos (self_guided e (odd + i) weights (window_at u w i j))) to stride w h before →
+  pub results : {e : Depth} → e ≡ d → (to stride : ℕ) (before : List ℤ) {after : List ℤ} → after ≡ rows (λ i j. pos (self_guided e (odd + i) weights (window_at u w i j))) to stride w h before →
       after ≡ rows (λ i j. pos (self_guided d (odd + i) weights (window_at s w i j))) to stride w h before
-  results e q to stride before after r =
+  results q to stride before r =
       r ∙ ap (λ (e : Depth). rows (λ i j. pos (self_guided e (odd + i) weights (window_at u w i j))) to stride w h before) q
       ∙ rows_same _ _ to stride w h before (λ i j m n. ap pos (guided_same i j m n))

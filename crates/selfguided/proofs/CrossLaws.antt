@@ -13,28 +13,20 @@ use Rattle.standard.specs.SelfGuided.{a2_at, b2_at}
 use Rattle.boxes.specs.declared.scale.Scale.{Scale}
 use Rattle.boxes.specs.Reads.{seen}
 use Rattle.boxes.specs.BoxRows.{Run, Setting, BoxRow}
-use Rattle.boxes.proofs.RunLaws.{run_same, run_kept, kept_on, kept_part, kept_none, samples_kept}
+use Rattle.boxes.proofs.RunLaws.{run_same, run_kept, kept_on, kept_part, samples_kept}
 use Rattle.boxes.proofs.BoxLaws.{a2_moved, b2_moved}
-use Rattle.selfguided.specs.Areas.{lines, cross_a, cross_b}
+use Rattle.selfguided.specs.declared.areas.Areas.{Areas}
+use Rattle.selfguided.specs.Areas.{AreasOf, lines, cross_a, cross_b}
 use Rattle.selfguided.specs.Passes.{Pass, Crossed}
-use Rattle.selfguided.proofs.WindowLaws.{seen_from, last_or}
+use Rattle.selfguided.proofs.WindowLaws.{seen_from, last_or, at_places, of_places}
 
-module _ (z : Scale) (w h : ℕ) (s : List ℤ) (P : Pass 1 z w h s) where
-  pub crossed_none : Crossed z.depth z.eps w h 0 s s
-  crossed_none = record {
-    long = refl;
-    window = kept_none _ _ s;
-    sixes = kept_none _ _ s;
-    a2 = λ y p. absurd (omega arith);
-    b2 = λ y p. absurd (omega arith);
-  }
-
-  module _ (y : ℕ) (t : List ℤ) (C : Crossed z.depth z.eps w h y s t) (p : y < h + 2) where
+module _ {z : Scale} {w h : ℕ} {s : List ℤ} (P : Pass 1 z w h s) where
+  module _ {y : ℕ} {t : List ℤ} (C : Crossed z.depth z.eps w h y s t) (p : y < h + 2) {at : Areas} (A : AreasOf w h at) where
     below_rows : (y + 1) * (w + 6) + (w + 6) + (w + 6) + (w + 6) ≤ (h + 6) * (w + 6)
     below_rows = omega (arith, mul-le-mul_right {m = y + 4} {n = h + 6} (w + 6) (omega arith))
 
-    pub cross_setting : Setting 1 z ((y + 1) * (w + 6) + 1) (lines w h) (cross_a w h + y * (w + 2)) (cross_b w h + y * (w + 2)) w t
-    cross_setting = record {
+    setting : Setting 1 z ((y + 1) * (w + 6) + 1) (lines w h) (cross_a w h + y * (w + 2)) (cross_b w h + y * (w + 2)) w t
+    setting = record {
       radius = omega arith;
       before = omega (arith, below_rows);
       lines = omega arith;
@@ -44,10 +36,16 @@ module _ (z : Scale) (w h : ℕ) (s : List ℤ) (P : Pass 1 z w h s) where
       scaled = P.scaled;
     }
 
+    pub cross_setting : Setting 1 z ((y + 1) * (w + 6) + 1) at.line (at.cross_a + y * (w + 2)) (at.cross_b + y * (w + 2)) w t
+    cross_setting = at_places (λ (l a b : ℕ). Setting 1 z ((y + 1) * (w + 6) + 1) l (a + y * (w + 2)) (b + y * (w + 2)) w t) A.line_is A.cross_a_is A.cross_b_is setting
+
     moved : (i j : ℕ) → i ≤ 2 → j ≤ w + 3 → seen (w + 6) t ((y + 1) * (w + 6) + 1) i j ≡ seen (w + 6) s 0 (y + 1 + i) (1 + j)
     moved i j u v = seen_from w h ((y + 1) * (w + 6) + 1) (y + 1) 1 C.window refl i j (omega arith) (omega arith)
 
-    module _ (u : List ℤ) (e : BoxRow 1 z ((y + 1) * (w + 6) + 1) (lines w h) (cross_a w h + y * (w + 2)) (cross_b w h + y * (w + 2)) w t u) where
+    module _ {u : List ℤ} (row : BoxRow 1 z ((y + 1) * (w + 6) + 1) at.line (at.cross_a + y * (w + 2)) (at.cross_b + y * (w + 2)) w t u) where
+      e : BoxRow 1 z ((y + 1) * (w + 6) + 1) (lines w h) (cross_a w h + y * (w + 2)) (cross_b w h + y * (w + 2)) w t u
+      e = of_places (λ (l a b : ℕ). BoxRow 1 z ((y + 1) * (w + 6) + 1) l (a + y * (w + 2)) (b + y * (w + 2)) w t u) A.line_is A.cross_a_is A.cross_b_is row
+
       new_a : Run (λ j. a2_at z.depth 1 z.eps (seen (w + 6) s 0) (y + 2) (j + 2)) (cross_a w h + y * (w + 2)) (w + 2) u
       new_a = run_same _ e.a2 (λ j q. a2_moved (seen (w + 6) s 0) (seen (w + 6) t ((y + 1) * (w + 6) + 1)) (y + 1) 1 2 (w + 3) moved z.depth 1 z.eps 1 (j + 1) (omega arith) (omega arith) (omega arith) (omega arith)
           ∙ ap2 (a2_at z.depth 1 z.eps (seen (w + 6) s 0)) (omega arith) (omega arith))

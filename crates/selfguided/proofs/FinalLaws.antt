@@ -1,6 +1,7 @@
 -- Parts of what a row of results reads, and that F is below 2^17.
+use mathlib.Core.Path.{◌≡◌}
 use mathlib.Core.List.{List}
-use Prim.Native.Nat.{ℕ, ◌+◌, ◌*◌, ◌/◌, ◌≤◌, ◌<◌}
+use Prim.Native.Nat.{ℕ, ◌+◌, ◌*◌, ◌/◌, ◌≤◌}
 use native.Mathlib.Omega.{arith}
 use native.Mathlib.Nat.{mul-le-mul}
 use lib.IntN.{ℤ}
@@ -8,11 +9,8 @@ use Rattle.laws.specs.Bounds.{samples_part}
 use Rattle.standard.specs.Arithmetic.{round_ℕ}
 use Rattle.boxes.specs.Reads.{sample_at, seen}
 use Rattle.selfguided.specs.Weighing.{crossed}
-use Rattle.selfguided.specs.Finals.{Source, Sixes, Crosses, cross_f, even_f, odd_f}
+use Rattle.selfguided.specs.Finals.{Sixes, Crosses, cross_f, even_f, odd_f}
 use Rattle.selfguided.proofs.WeighLaws.{cross_small}
-
-pub source_part : {n u : ℕ} {s : List ℤ} (j : ℕ) → Source n u s → j < n → Source 1 (u + j) s
-source_part j p h = record { room = omega (arith, p.room); samples = samples_part _ _ p.samples (omega arith) (omega arith) }
 
 pub sixes_part : {n a b : ℕ} {s : List ℤ} (m j : ℕ) → Sixes n a b s → j + m ≤ n → Sixes m (a + j) (b + j) s
 sixes_part m j p h = record {
@@ -29,6 +27,9 @@ crosses_part m j p h = record {
   samples_a = samples_part _ _ p.samples_a (omega arith) (omega arith);
   samples_b = samples_part _ _ p.samples_b (omega arith) (omega arith);
 }
+
+pub and_small : {x y m : ℕ} → x ≡ y → y ≤ m → (x ≡ y) × (x ≤ m)
+and_small e h = (e, omega (arith, e, h))
 
 pub cross_F_small : (st : ℕ) {a b : ℕ} {s : List ℤ} (u : ℕ) → Crosses (2 * st + 3) a b s → u ≤ 4095 → cross_f s a b st u ≤ 131071
 unfolding round_ℕ

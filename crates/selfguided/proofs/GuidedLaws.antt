@@ -67,7 +67,7 @@ module _ (t : List ℤ) (w i j : ℕ) where
   b2_window : (d : Depth) (r eps y x : ℕ) → r ≤ 2 → r ≤ y → r ≤ x → y ≤ 4 → x ≤ 4 → b2_at d r eps window_at y x ≡ b2_at d r eps (seen (w + 6) t 0) (i + y) (j + x)
   b2_window d r eps y x p u v m n = b2_moved (seen (w + 6) t 0) window_at i j 6 6 in_grid d r eps y x u v (omega arith) (omega arith)
 
-module _ (d : Depth) (w h odd : ℕ) (weights : Weights) (t : List ℤ) (R : Ready d w h odd weights t) (i : ℕ) (low : i < h) (p : Spots) (P : SpotsOf w h odd i p) where
+module _ {d : Depth} {w h odd : ℕ} {weights : Weights} {t : List ℤ} (R : Ready d w h odd weights t) {i : ℕ} (low : i < h) {p : Spots} (P : SpotsOf w h odd i p) where
   abbrev set : ℕ
   set = weights.set
 

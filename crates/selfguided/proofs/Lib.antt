@@ -8,4 +8,5 @@ pub mod FinalLaws
 pub mod ParamLaws
 pub mod GuidedLaws
 pub mod ReadyLaws
+pub mod RowLaws
 pub mod CallLaws

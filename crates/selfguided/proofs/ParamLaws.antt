@@ -2,7 +2,7 @@
 use mathlib.Core.Path.{◌≡◌, subst}
 use mathlib.Core.Bool.{Bool, true, false, not, ◌&&◌, ◌||◌}
 use mathlib.Core.List.{List, [], ◌∷◌}
-use Prim.Native.Nat.{ℕ, ◌+◌, ◌*◌, ◌≤◌, ◌<◌}
+use Prim.Native.Nat.{ℕ, ◌≤◌, ◌<◌}
 use native.Mathlib.Omega.{arith}
 use lib.Dec.{T, eqb, leb, eqb→eq, leb→le}
 use lib.ListN.{get_or}
@@ -10,39 +10,47 @@ use Rattle.laws.specs.Congruence.{ap2}
 use Rattle.laws.specs.Lists.{all, all_below, all_at, below_at}
 use Rattle.laws.specs.Tests.{and_l, and_r}
 use Rattle.standard.specs.SelfGuided.{Passes, sgr, sgr_params}
+use Rattle.std.specs.Prelude.{Option, Some, None}
+use Rattle.selfguided.specs.declared.parameters.Params.{Params}
+use Rattle.selfguided.specs.Parameters.{ParamsOf, radius_of, eps_of}
 
-abbrev pub flat : List ℕ
-flat =
-    2 ∷ 12 ∷ 1 ∷ 4 ∷ 2 ∷ 15 ∷ 1 ∷ 6 ∷ 2 ∷ 18 ∷ 1 ∷ 8 ∷ 2 ∷ 21 ∷ 1 ∷ 9 ∷ 2 ∷ 24 ∷ 1 ∷ 10 ∷ 2 ∷ 29 ∷ 1 ∷ 11 ∷ 2 ∷ 36 ∷ 1 ∷ 12 ∷ 2 ∷ 45 ∷ 1 ∷ 13 ∷ 2 ∷ 56 ∷ 1 ∷ 14 ∷ 2 ∷ 68 ∷ 1 ∷ 15 ∷ 0 ∷ 0 ∷ 1 ∷ 5 ∷ 0 ∷ 0 ∷ 1 ∷ 8 ∷ 0 ∷ 0 ∷ 1 ∷ 11 ∷ 0 ∷ 0 ∷ 1 ∷ 14 ∷ 2 ∷ 30 ∷ 0 ∷ 0 ∷ 2 ∷ 75 ∷ 0 ∷ 0 ∷ []
+abbrev table : List (List (Option ℕ))
+table =
+    (Some 12 ∷ Some 4 ∷ []) ∷ (Some 15 ∷ Some 6 ∷ []) ∷ (Some 18 ∷ Some 8 ∷ []) ∷ (Some 21 ∷ Some 9 ∷ []) ∷
+    (Some 24 ∷ Some 10 ∷ []) ∷ (Some 29 ∷ Some 11 ∷ []) ∷ (Some 36 ∷ Some 12 ∷ []) ∷ (Some 45 ∷ Some 13 ∷ []) ∷
+    (Some 56 ∷ Some 14 ∷ []) ∷ (Some 68 ∷ Some 15 ∷ []) ∷ (None ∷ Some 5 ∷ []) ∷ (None ∷ Some 8 ∷ []) ∷
+    (None ∷ Some 11 ∷ []) ∷ (None ∷ Some 14 ∷ []) ∷ (Some 30 ∷ None ∷ []) ∷ (Some 75 ∷ None ∷ []) ∷ []
+
+abbrev params : ℕ → Params
+params k = record { eps0 = get_or (get_or table k []) 0 None; eps1 = get_or (get_or table k []) 1 None }
 
 abbrev first : ℕ → Bool
-first k = eqb (get_or flat (4 * k) 0) (sgr k).0
+first k = eqb (radius_of 2 (params k).eps0) (sgr k).0
 
 abbrev second : ℕ → Bool
-second k = eqb (get_or flat (4 * k + 1) 0) (sgr k).1
+second k = eqb (eps_of (params k).eps0) (sgr k).1
 
 abbrev third : ℕ → Bool
-third k = eqb (get_or flat (4 * k + 2) 0) (sgr k).2
+third k = eqb (radius_of 1 (params k).eps1) (sgr k).2
 
 abbrev fourth : ℕ → Bool
-fourth k = eqb (get_or flat (4 * k + 3) 0) (sgr k).3
+fourth k = eqb (eps_of (params k).eps1) (sgr k).3
 
 tested : (k : ℕ) → k < 16 → T ((first k && second k) && (third k && fourth k))
 unfolding all_below sgr sgr_params
 tested k h = below_at 16 (λ k. (first k && second k) && (third k && fourth k)) tt k h
 
-module _ (k : ℕ) (h : k ≤ 15) where
-  pub flat_r0 : get_or flat (4 * k) 0 ≡ (sgr k).0
-  flat_r0 = eqb→eq _ _ (and_l (first k) (second k) (and_l (first k && second k) (third k && fourth k) (tested k (omega arith))))
-
-  pub flat_eps0 : get_or flat (4 * k + 1) 0 ≡ (sgr k).1
-  flat_eps0 = eqb→eq _ _ (and_r (first k) (second k) (and_l (first k && second k) (third k && fourth k) (tested k (omega arith))))
-
-  pub flat_r1 : get_or flat (4 * k + 2) 0 ≡ (sgr k).2
-  flat_r1 = eqb→eq _ _ (and_l (third k) (fourth k) (and_r (first k && second k) (third k && fourth k) (tested k (omega arith))))
-
-  pub flat_eps1 : get_or flat (4 * k + 3) 0 ≡ (sgr k).3
-  flat_eps1 = eqb→eq _ _ (and_r (third k) (fourth k) (and_r (first k && second k) (third k && fourth k) (tested k (omega arith))))
+pub table_is : (k : ℕ) → k ≤ 15 → ParamsOf k (params k)
+table_is k h =
+    let t = tested k (omega arith) in
+    let l = and_l (first k && second k) (third k && fourth k) t in
+    let r = and_r (first k && second k) (third k && fourth k) t in
+    record {
+      r0_is = eqb→eq _ _ (and_l (first k) (second k) l);
+      eps0_is = eqb→eq _ _ (and_r (first k) (second k) l);
+      r1_is = eqb→eq _ _ (and_l (third k) (fourth k) r);
+      eps1_is = eqb→eq _ _ (and_r (third k) (fourth k) r);
+    }
 
 -- ---- the radii and eps that there are
 abbrev present : ℕ → ℕ → ℕ → Bool

@@ -37,11 +37,11 @@ module _ (f : ℕ → ℕ → ℕ) (from w n m : ℕ) (t : List ℤ) (runs : (k 
     size = λ q u v. let r = of_lt {i = q - from} {h = n} {w = w} (omega arith) in subst (λ (z : ℤ). nat_abs z ≤ m) (sym (cell_is q u r)) (small ((q - from) / w) ((q - from) % w) r.0 r.1);
   }
 
-module _ (d : Depth) (w h odd : ℕ) (weights : Weights) (t : List ℤ) (R : Ready d w h odd weights t) where
+module _ {d : Depth} {w h odd : ℕ} {weights : Weights} {t : List ℤ} (R : Ready d w h odd weights t) where
   in_range_lem : (y x : ℕ) → y < h + 6 → x < w + 6 → seen (w + 6) t 0 y x ≤ largest d
   in_range_lem y x p q = seen_small w h (largest d) R.window.samples y x p q
 
-  module _ (i : ℕ) (low : i < h) (p : Spots) (P : SpotsOf w h odd i p) where
+  module _ {i : ℕ} (low : i < h) {p : Spots} (P : SpotsOf w h odd i p) where
     pub source : Source w p.u t
     source = record {
       room = omega (arith, P.u_is, R.window.room, rows);

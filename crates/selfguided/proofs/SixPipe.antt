@@ -19,7 +19,7 @@ use Rattle.selfguided.specs.Weighing.{five_six}
 use Rattle.selfguided.specs.Passes.{SixSetting, SixRow}
 use Rattle.selfguided.proofs.WeighLaws.{six_same}
 
-module _ (z : Scale) (from line a b w : ℕ) (s : List ℤ) (P : SixSetting z from line a b w s) where
+module _ {z : Scale} {from line a b w : ℕ} {s : List ℤ} (P : SixSetting z from line a b w s) where
   abbrev la : ℕ
   la = line + (4 * w + 16)
 
@@ -41,11 +41,11 @@ module _ (z : Scale) (from line a b w : ℕ) (s : List ℤ) (P : SixSetting z fr
   unfolding seen
   seen_range i j p q = P.samples.size (from + i * (w + 6) + j) (omega arith) (omega (arith, mul-le-mul_right (w + 6) p))
 
-  module _ (s1 : List ℤ) (e1 : BoxRow 2 z from line la lb w s s1) where
+  module _ {s1 : List ℤ} (e1 : BoxRow 2 z from line la lb w s s1) where
     pub second_reads : Samples 1045245 la (la + 2 + w) s1
     second_reads = samples_part la (la + 2 + w) (run_samples 1045245 e1.a2 (λ j h. omega (arith, a2_bounded z.depth 2 z.eps (seen (w + 6) s from) 2 (j + 2)))) (omega arith) (omega arith)
 
-    module _ (s2 : List ℤ) (e2 : s2 ≡ stamp (λ j. pos (five_six (λ k. sample_at s1 (la + j + k)))) a w s1) where
+    module _ {s2 : List ℤ} (e2 : s2 ≡ stamp (λ j. pos (five_six (λ k. sample_at s1 (la + j + k)))) a w s1) where
       pub long2 : length s2 ≡ length s
       long2 = ap length e2 ∙ stamp_length _ _ _ _ ∙ e1.long
 
@@ -61,7 +61,7 @@ module _ (z : Scale) (from line a b w : ℕ) (s : List ℤ) (P : SixSetting z fr
           index : (j k : ℕ) → la + j + k ≡ la + (j + k)
           index j k = omega arith
 
-      module _ (s3 : List ℤ) (e3 : s3 ≡ stamp (λ j. pos (five_six (λ k. sample_at s2 (lb + j + k)))) b w s2) where
+      module _ {s3 : List ℤ} (e3 : s3 ≡ stamp (λ j. pos (five_six (λ k. sample_at s2 (lb + j + k)))) b w s2) where
         sums_b : Run (λ j. five_six (λ i. b2_at z.depth 2 z.eps (seen (w + 6) s from) 2 (j + i + 2))) b w s3
         sums_b = run_same _ (run_new _ b w s2 e3 (omega (arith, long2, P.room))) (λ j h. six_same _ _ (λ k l. ap (sample_at s2) (index j k) ∙ run_at b2_kept (j + k) (omega arith)))
           where

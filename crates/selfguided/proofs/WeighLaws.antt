@@ -1,21 +1,17 @@
 -- The weighted sums as code takes them, and their bounds.
-use mathlib.Core.Path.{◌≡◌, sym, ap, subst}
+use mathlib.Core.Path.{◌≡◌, ap}
 use mathlib.Core.List.{List}
 use Prim.Native.Nat.{ℕ, ◌+◌, ◌-◌, ◌*◌, ◌≤◌, ◌<◌}
 use native.Mathlib.Omega.{arith}
 use native.Mathlib.Nat.{mul-le-mul_right, le_of_suc-le-suc, add-zero}
 use lib.IntN.{ℤ}
-use Rattle.laws.specs.Bounds.{Samples}
+use Rattle.laws.specs.Bounds.{Samples, samples_part}
 use Rattle.standard.specs.Arithmetic.{sum}
 use Rattle.standard.specs.Wiener.{Grid}
 use Rattle.standard.specs.SelfGuided.{weight}
 use Rattle.boxes.specs.Reads.{sample_at, seen, sums}
-use Rattle.boxes.proofs.SumLaws.{sum3_is}
+use Rattle.boxes.proofs.SumLaws.{sum3_is, sums_small}
 use Rattle.selfguided.specs.Weighing.{five_six, crossed}
-
--- a sample that was read is as small as its area says
-pub read_small : {m lo hi : ℕ} {s : List ℤ} {x : ℕ} → Samples m lo hi s → (k : ℕ) → lo ≤ k → k < hi → x ≡ sample_at s k → x ≤ m
-read_small {m} p k u v e = subst (λ (n : ℕ). n ≤ m) (sym e) (p.size k u v)
 
 -- ---- 5-6-5
 pub six_is : (s : List ℤ) (i : ℕ) → 5 * (sample_at s i + sample_at s (i + 2)) + 6 * sample_at s (i + 1) ≡ five_six (λ k. sample_at s (i + k))
@@ -74,3 +70,10 @@ module _ (s : List ℤ) (i st : ℕ) where
 pub cross_small : {m a hi : ℕ} {s : List ℤ} (st : ℕ) → Samples m a hi s → a + 2 * st + 3 ≤ hi → crossed (seen st s a) ≤ 32 * m
 unfolding seen
 cross_small {m} {a} {hi} {s} st p q = crossed_small m (λ y x. sample_at s (a + y * st + x)) (λ y x u v. p.size (a + y * st + x) (omega arith) (omega (arith, mul-le-mul_right st (le_of_suc-le-suc u))))
+
+-- what a place's three sums along a row come to, for b2
+pub cross_sums : {i : ℕ} (st : ℕ) {s : List ℤ} → Samples 1045245 i (i + 2 * st + 3) s → (sums 3 s i 1 ≤ 3135735) × (sums 3 s (i + st) 1 ≤ 3135735) × (sums 3 s (i + 2 * st) 1 ≤ 3135735)
+cross_sums {i} st {s} p = (row i (omega arith) (omega arith), row (i + st) (omega arith) (omega arith), row (i + 2 * st) (omega arith) (omega arith))
+  where
+    row : (k : ℕ) → i ≤ k → k + 3 ≤ i + 2 * st + 3 → sums 3 s k 1 ≤ 3135735
+    row k a b = sums_small (samples_part k (k + 3) p a b) 2 1 (omega arith)

@@ -6,11 +6,11 @@ use mathlib.Core.Logic.{◌⊎◌}
 use native.Mathlib.Omega.{arith}
 use native.Mathlib.Nat.{eq-or-lt_of_le}
 use lib.IntN.{ℤ, nat_abs}
-use Rattle.laws.specs.Index.{cell_lt, mul_small}
+use Rattle.laws.specs.Index.{cell_lt}
 use Rattle.laws.specs.Bounds.{Samples}
 use Rattle.boxes.specs.Reads.{sample_at, seen}
 use Rattle.boxes.specs.BoxRows.{Kept}
-use Rattle.selfguided.specs.Areas.{lines, used}
+use Rattle.selfguided.specs.Areas.{lines}
 
 -- from row p, column q of a list that has the same window
 pub seen_from : (w h from p q : ℕ) {s t : List ℤ} → Kept 0 (lines w h) s t → from ≡ p * (w + 6) + q → (i j : ℕ) → p + i < h + 6 → q + j < w + 6 →
@@ -36,7 +36,3 @@ at_places P {a = a} {b = b} {l' = l'} {a' = a'} p q r h = subst (λ (x : ℕ). P
 
 pub of_places : (P : ℕ → ℕ → ℕ → Type 0) {l a b l' a' b' : ℕ} → l ≡ l' → a ≡ a' → b ≡ b' → P l a b → P l' a' b'
 of_places P p q r h = at_places P (sym p) (sym q) (sym r) h
-
--- every place is far below 2^64
-pub places_small : (w h : ℕ) → w ≤ 383 → h ≤ 64 → used w h ≤ 200000
-places_small w h p q = omega (arith, mul_small 64 383 q p)

@@ -10,7 +10,6 @@ use Rattle.selfguided.specs.declared.parameters.Params.{Params}
 use Rattle.selfguided.specs.declared.projection.Mix.{Mix}
 use Rattle.selfguided.specs.declared.spots.Spots.{Spots}
 use Rattle.selfguided.specs.Areas.{lines, six_a, six_b, cross_a, cross_b, used}
-use Rattle.selfguided.specs.Mixes.{Mixed}
 use Rattle.selfguided.specs.Parameters.{ParamsOf}
 use Rattle.selfguided.specs.Passes.{Sixed, Crossed, counted}
 
@@ -57,6 +56,5 @@ pub record Rows (to stride w h : ℕ) (out : List ℤ) : Type 0 where
 pub record Plan (weights : Weights) (p : Params) (m : Mix) : Type 0 where
   pub set_high : weights.set ≤ 15
   pub params : ParamsOf weights.set p
-  pub mixed : Mixed m
   pub w0_is : m.w0 ≡ weights.w0
   pub w1_is : m.w1 ≡ weights.w1

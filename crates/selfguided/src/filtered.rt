@@ -1,10 +1,8 @@
-// F of one sample u: pass 1, and pass 0 at an even and at an odd row of the plane.
-ghost use Rattle.std.specs.Prelude.{◌≡◌, ◌+◌, ◌*◌, ◌≤◌, ◌<◌, length};
-ghost use Rattle.laws.specs.Bounds.{Samples};
-ghost use Rattle.standard.specs.Arithmetic.{round_ℕ};
-ghost use Rattle.boxes.specs.Reads.{sample_at, seen};
-ghost use Rattle.selfguided.specs.Weighing.{crossed};
+// F of one sample u: pass 1, pass 0 at an even and at an odd row of the plane, and a pass whose radius is 0.
+ghost use Rattle.std.specs.Prelude.{◌≡◌, List, ℕ, ℤ, ◌+◌, ◌*◌, ◌≤◌, ⊤};
+ghost use Rattle.selfguided.specs.Finals.{Sixes, Crosses, cross_f, even_f, odd_f};
 
+use crate::spots::Spots;
 use crate::weighted::cross_at;
 use boxes::samples::word;
 
@@ -16,27 +14,70 @@ pub fn times(x: u32, u: u32) -> u32
     (x % 16384) * (u % 8192)
 }
 
-pub fn f1_at(s: &[i32], a: usize, b: usize, st: usize, u: u32) -> u32
-    requires st_in_bounds { (a + 2 * st + 2 < length s.now) × (b + 2 * st + 2 < length s.now) × (u ≤ 4095) }
-    requires samples { Samples 256 a (a + 2 * st + 3) s.now × Samples 1045245 b (b + 2 * st + 3) s.now }
-    ensures { result ≡ round_ℕ 9 (crossed (seen st s.now a) * u + crossed (seen st s.now b)) }
-{
-    (times(cross_at(s, a, st), u) + cross_at(s, b, st) + 256) >> 9
+// What a pass makes of sample j of a row of n.
+pub trait Filter {
+    ghost use Rattle.selfguided.specs.declared.spots.Spots.{Spots};
+
+    // What it reads is there and in range.
+    ghost can_read: { Spots → ℕ → List ℤ → ℕ → Type 0 };
+
+    // F, for the sample u.
+    ghost f_of: { Spots → ℕ → List ℤ → ℕ → ℕ → ℕ };
+
+    fn at(s: &[i32], p: Spots, n: usize, j: usize, u: u32) -> u32
+        requires { can_read p n s.now j × (u ≤ 4095) }
+        ensures { (result ≡ f_of p n s.now j u) × (result ≤ 131071) };
 }
 
-// Rows of 5-6-5 sums n apart.
-pub fn f0_even_at(s: &[i32], a: usize, b: usize, n: usize, u: u32) -> u32
-    requires n_in_bounds { (a + n < length s.now) × (b + n < length s.now) × (u ≤ 4095) }
-    requires samples { Samples 4096 a (a + n + 1) s.now × Samples 16723920 b (b + n + 1) s.now }
-    ensures { result ≡ round_ℕ 9 ((sample_at s.now a + sample_at s.now (a + n)) * u + (sample_at s.now b + sample_at s.now (b + n))) }
-{
-    (times(word(s, a) + word(s, a + n), u) + (word(s, b) + word(s, b + n)) + 256) >> 9
+// Pass 1.
+pub struct Cross;
+
+impl Filter for Cross {
+    ghost can_read = { λ p n s j. Crosses (2 * (n + 2) + 3) (p.a + j) (p.b + j) s };
+
+    ghost f_of = { λ p n s j u. cross_f s (p.a + j) (p.b + j) (n + 2) u };
+
+    fn at(s: &[i32], p: Spots, n: usize, j: usize, u: u32) -> u32 {
+        (times(cross_at(s, p.a + j, n + 2), u) + cross_at(s, p.b + j, n + 2) + 256) >> 9
+    }
 }
 
-pub fn f0_odd_at(s: &[i32], a: usize, b: usize, u: u32) -> u32
-    requires a_in_bounds { (a < length s.now) × (b < length s.now) × (u ≤ 4095) }
-    requires samples { Samples 4096 a (a + 1) s.now × Samples 16723920 b (b + 1) s.now }
-    ensures { result ≡ round_ℕ 8 (sample_at s.now a * u + sample_at s.now b) }
-{
-    (times(word(s, a), u) + word(s, b) + 128) >> 8
+// Pass 0: rows of 5-6-5 sums n apart, of which an even row of the plane has two and an odd row one.
+pub struct EvenRow;
+
+impl Filter for EvenRow {
+    ghost can_read = { λ p n s j. Sixes (n + 1) (p.sa + j) (p.sb + j) s };
+
+    ghost f_of = { λ p n s j u. even_f s (p.sa + j) (p.sb + j) n u };
+
+    fn at(s: &[i32], p: Spots, n: usize, j: usize, u: u32) -> u32 {
+        let a = p.sa + j;
+        let b = p.sb + j;
+        (times(word(s, a) + word(s, a + n), u) + (word(s, b) + word(s, b + n)) + 256) >> 9
+    }
+}
+
+pub struct OddRow;
+
+impl Filter for OddRow {
+    ghost can_read = { λ p n s j. Sixes 1 (p.sa + j) (p.sb + j) s };
+
+    ghost f_of = { λ p n s j u. odd_f s (p.sa + j) (p.sb + j) u };
+
+    fn at(s: &[i32], p: Spots, _n: usize, j: usize, u: u32) -> u32 {
+        (times(word(s, p.sa + j), u) + word(s, p.sb + j) + 128) >> 8
+    }
+}
+
+// Radius 0: the sample itself stands for its F.
+pub struct Absent;
+
+impl Filter for Absent {
+    ghost can_read = { λ p n s j. ⊤ };
+
+    ghost f_of = { λ p n s j v. 16 * v };
+
+    fn at(_s: &[i32], _p: Spots, _n: usize, _j: usize, u: u32) -> u32 {
+        16 * u
+    }
 }

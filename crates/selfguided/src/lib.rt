@@ -16,7 +16,6 @@ ghost use Rattle.laws.specs.Bounds.{Samples};
 ghost use Rattle.laws.specs.Rows.{rows};
 ghost use Rattle.standard.specs.Depths.{largest};
 ghost use Rattle.standard.specs.SelfGuided.{self_guided};
-ghost use Rattle.boxes.specs.Tables.{A2Table};
 ghost use Rattle.units.specs.Legal.{LegalWeights};
 ghost use Rattle.selfguided.specs.Windows.{Rows};
 
@@ -24,10 +23,11 @@ use crate::last::last;
 use crate::parameters::params_of;
 use crate::passes::{first_pass, second_pass};
 use crate::projection::mix_of;
+use boxes::table::A2;
 use standard::{Depth, Weights};
 
 // h rows of w results. Their window, h + 6 rows of w + 6 samples, lies at s[0 ..]; the rest of s is scratch. `odd` is the parity of the
-// first row in its plane, and `tab` holds a2 of each z.
+// first row in its plane.
 pub fn selfguided_window(
     out: &mut [i32],
     to: usize,
@@ -38,20 +38,15 @@ pub fn selfguided_window(
     odd: usize,
     weights: Weights,
     d: Depth,
-    tab: &[i32; 256],
+    tab: &A2,
 )
     requires le_w { (1 ≤ w) × (w ≤ 383) × (1 ≤ h) × (h ≤ 64) × (odd ≤ 1) × (6 * (w + 8) * (h + 8) ≤ length s.old) }
-    requires samples { Samples (largest d) 0 ((h + 6) * (w + 6)) s.old × Rows to out_stride w h out.old × LegalWeights weights × A2Table tab.now }
+    requires samples { Samples (largest d) 0 ((h + 6) * (w + 6)) s.old × Rows to out_stride w h out.old × LegalWeights weights }
     ensures { out.new ≡ rows (λ i j. pos (self_guided d (odd + i) weights (λ a b. nat_abs (get_or s.old ((i + a) * (w + 6) + (j + b)) (pos 0))))) to out_stride w h out.old }
 {
-    let set = weights.set;
-    let p = params_of(set);
-    let r0 = p.r0;
-    let eps0 = p.eps0;
-    let r1 = p.r1;
-    let eps1 = p.eps1;
-    first_pass(s, w, h, odd, r0, eps0, d, tab);
-    second_pass(s, w, h, r1, eps1, d, tab);
+    let p = params_of(weights.set);
+    first_pass(s, w, h, odd, p.eps0, d, tab);
+    second_pass(s, w, h, p.eps1, d, tab);
     let m = mix_of(weights, d);
     last(out, to, out_stride, s, w, h, odd, weights, p, m);
 }

@@ -15,28 +15,28 @@ pub struct Mix {
     pub w1: i32,
     pub w2: i32,
     pub top: i32,
+    pub ghost mixed: { Mixed depth w0 w1 w2 top },
 }
 
 pub fn mix_of(weights: Weights, d: Depth) -> Mix
     requires { LegalWeights weights }
-    ensures { (result.depth ≡ d) × (result.w0 ≡ weights.w0) × (result.w1 ≡ weights.w1) × Mixed result }
+    ensures { (result.depth ≡ d) × (result.w0 ≡ weights.w0) × (result.w1 ≡ weights.w1) }
 {
     let w0 = weights.w0;
     let w1 = weights.w1;
     let w2 = 128 - w0 - w1;
-    let top = largest(d);
     Mix {
         depth: d,
-        w0: w0,
-        w1: w1,
-        w2: w2,
-        top: top,
+        w0,
+        w1,
+        w2,
+        top: largest(d),
     }
 }
 
 // w1 * v + w0 * f0 + w2 * f1 with two products, since the three weights sum to 128.
 pub fn project(u: u32, f0: u32, f1: u32, m: Mix) -> i32
-    requires { (u ≤ 4095) × (f0 ≤ 131071) × (f1 ≤ 131071) × Mixed m }
+    requires { (u ≤ 4095) × (f0 ≤ 131071) × (f1 ≤ 131071) }
     ensures { result ≡ pos (guided.project m.depth m.w0 m.w1 (16 * u) f0 f1) }
 {
     let v = (16 * u) as i32;

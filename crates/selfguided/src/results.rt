@@ -1,183 +1,36 @@
 // A row of results from the areas of the scratch: F of each pass and the projection.
-ghost use Rattle.std.specs.Prelude.{◌≡◌, ◌+◌, ◌*◌, ◌≤◌, pos, length};
+ghost use Rattle.std.specs.Prelude.{◌≡◌, ℕ, ◌+◌, ◌*◌, ◌≤◌, ◌<◌, pos, length};
 ghost use Rattle.laws.specs.Runs.{stamp};
 ghost use Rattle.standard.specs.SelfGuided as guided;
 ghost use Rattle.boxes.specs.Reads.{sample_at};
-ghost use Rattle.selfguided.specs.Mixes.{Mixed};
-ghost use Rattle.selfguided.specs.Finals.{Source, Sixes, Crosses, cross_f, even_f, odd_f};
+ghost use Rattle.selfguided.specs.Finals.{Source};
 
-use crate::filtered::{f0_even_at, f0_odd_at, f1_at};
+use crate::filtered::Filter;
 use crate::projection::{Mix, project};
+use crate::spots::Spots;
 use boxes::samples::word;
 
-// Both filters, at an even row of the plane.
-pub fn both_even_at(
-    s: &[i32],
-    sa: usize,
-    sb: usize,
-    a: usize,
-    b: usize,
-    fu: usize,
-    n: usize,
-    m: Mix,
-) -> i32
-    requires { Source 1 fu s.now × Sixes (n + 1) sa sb s.now × Crosses (2 * (n + 2) + 3) a b s.now × Mixed m × (n ≤ 383) }
-    ensures { result ≡ pos (guided.project m.depth m.w0 m.w1 (16 * sample_at s.now fu) (even_f s.now sa sb n (sample_at s.now fu)) (cross_f s.now a b (n + 2) (sample_at s.now fu))) }
+// Result j of a row of n: A is the filter of pass 0, B that of pass 1.
+pub fn result_at<A: Filter, B: Filter>(s: &[i32], p: Spots, n: usize, j: usize, m: Mix) -> i32
+    requires { Source 1 (p.u + j) s.now × A.can_read p n s.now j × B.can_read p n s.now j }
+    ensures { result ≡ pos (guided.project m.depth m.w0 m.w1 (16 * sample_at s.now (p.u + j)) (A.f_of p n s.now j (sample_at s.now (p.u + j))) (B.f_of p n s.now j (sample_at s.now (p.u + j)))) }
 {
-    let u = word(s, fu);
-    project(u, f0_even_at(s, sa, sb, n, u), f1_at(s, a, b, n + 2, u), m)
+    let u = word(s, p.u + j);
+    project(u, A::at(s, p, n, j, u), B::at(s, p, n, j, u), m)
 }
 
-pub fn both_even_row(
+pub fn result_row<A: Filter, B: Filter>(
     out: &mut [i32],
     to: usize,
     s: &[i32],
-    sa: usize,
-    sb: usize,
-    a: usize,
-    b: usize,
-    fu: usize,
+    p: Spots,
     n: usize,
     m: Mix,
 )
-    requires { (to + n ≤ length out.old) × Source n fu s.now × Sixes (n + n) sa sb s.now × Crosses (2 * (n + 2) + (n + 2)) a b s.now × Mixed m × (n ≤ 383) }
-    ensures { out.new ≡ stamp (λ j. pos (guided.project m.depth m.w0 m.w1 (16 * sample_at s.now (fu + j)) (even_f s.now (sa + j) (sb + j) n (sample_at s.now (fu + j))) (cross_f s.now (a + j) (b + j) (n + 2) (sample_at s.now (fu + j))))) to n out.old }
+    requires { (to + n ≤ length out.old) × Source n p.u s.now × ((j : ℕ) → j < n → A.can_read p n s.now j) × ((j : ℕ) → j < n → B.can_read p n s.now j) }
+    ensures { out.new ≡ stamp (λ j. pos (guided.project m.depth m.w0 m.w1 (16 * sample_at s.now (p.u + j)) (A.f_of p n s.now j (sample_at s.now (p.u + j))) (B.f_of p n s.now j (sample_at s.now (p.u + j))))) to n out.old }
 {
-    let mut j = 0;
-    while j < n {
-        let v = both_even_at(s, sa + j, sb + j, a + j, b + j, fu + j, n, m);
-        out[to + j] = v;
-        j += 1;
-    }
-}
-
-// Both filters, at an odd row.
-pub fn both_odd_at(
-    s: &[i32],
-    sa: usize,
-    sb: usize,
-    a: usize,
-    b: usize,
-    fu: usize,
-    n: usize,
-    m: Mix,
-) -> i32
-    requires { Source 1 fu s.now × Sixes 1 sa sb s.now × Crosses (2 * (n + 2) + 3) a b s.now × Mixed m × (n ≤ 383) }
-    ensures { result ≡ pos (guided.project m.depth m.w0 m.w1 (16 * sample_at s.now fu) (odd_f s.now sa sb (sample_at s.now fu)) (cross_f s.now a b (n + 2) (sample_at s.now fu))) }
-{
-    let u = word(s, fu);
-    project(u, f0_odd_at(s, sa, sb, u), f1_at(s, a, b, n + 2, u), m)
-}
-
-pub fn both_odd_row(
-    out: &mut [i32],
-    to: usize,
-    s: &[i32],
-    sa: usize,
-    sb: usize,
-    a: usize,
-    b: usize,
-    fu: usize,
-    n: usize,
-    m: Mix,
-)
-    requires { (to + n ≤ length out.old) × Source n fu s.now × Sixes n sa sb s.now × Crosses (2 * (n + 2) + (n + 2)) a b s.now × Mixed m × (n ≤ 383) }
-    ensures { out.new ≡ stamp (λ j. pos (guided.project m.depth m.w0 m.w1 (16 * sample_at s.now (fu + j)) (odd_f s.now (sa + j) (sb + j) (sample_at s.now (fu + j))) (cross_f s.now (a + j) (b + j) (n + 2) (sample_at s.now (fu + j))))) to n out.old }
-{
-    let mut j = 0;
-    while j < n {
-        let v = both_odd_at(s, sa + j, sb + j, a + j, b + j, fu + j, n, m);
-        out[to + j] = v;
-        j += 1;
-    }
-}
-
-// Radius 0 in pass 0: the sample itself stands for its F.
-pub fn only1_at(s: &[i32], a: usize, b: usize, fu: usize, n: usize, m: Mix) -> i32
-    requires { Source 1 fu s.now × Crosses (2 * (n + 2) + 3) a b s.now × Mixed m × (n ≤ 383) }
-    ensures { result ≡ pos (guided.project m.depth m.w0 m.w1 (16 * sample_at s.now fu) (16 * sample_at s.now fu) (cross_f s.now a b (n + 2) (sample_at s.now fu))) }
-{
-    let u = word(s, fu);
-    project(u, 16 * u, f1_at(s, a, b, n + 2, u), m)
-}
-
-pub fn only1_row(
-    out: &mut [i32],
-    to: usize,
-    s: &[i32],
-    a: usize,
-    b: usize,
-    fu: usize,
-    n: usize,
-    m: Mix,
-)
-    requires { (to + n ≤ length out.old) × Source n fu s.now × Crosses (2 * (n + 2) + (n + 2)) a b s.now × Mixed m × (n ≤ 383) }
-    ensures { out.new ≡ stamp (λ j. pos (guided.project m.depth m.w0 m.w1 (16 * sample_at s.now (fu + j)) (16 * sample_at s.now (fu + j)) (cross_f s.now (a + j) (b + j) (n + 2) (sample_at s.now (fu + j))))) to n out.old }
-{
-    let mut j = 0;
-    while j < n {
-        let v = only1_at(s, a + j, b + j, fu + j, n, m);
-        out[to + j] = v;
-        j += 1;
-    }
-}
-
-// Radius 0 in pass 1, at an even row.
-pub fn only0_even_at(s: &[i32], sa: usize, sb: usize, fu: usize, n: usize, m: Mix) -> i32
-    requires { Source 1 fu s.now × Sixes (n + 1) sa sb s.now × Mixed m × (n ≤ 383) }
-    ensures { result ≡ pos (guided.project m.depth m.w0 m.w1 (16 * sample_at s.now fu) (even_f s.now sa sb n (sample_at s.now fu)) (16 * sample_at s.now fu)) }
-{
-    let u = word(s, fu);
-    project(u, f0_even_at(s, sa, sb, n, u), 16 * u, m)
-}
-
-pub fn only0_even_row(
-    out: &mut [i32],
-    to: usize,
-    s: &[i32],
-    sa: usize,
-    sb: usize,
-    fu: usize,
-    n: usize,
-    m: Mix,
-)
-    requires { (to + n ≤ length out.old) × Source n fu s.now × Sixes (n + n) sa sb s.now × Mixed m × (n ≤ 383) }
-    ensures { out.new ≡ stamp (λ j. pos (guided.project m.depth m.w0 m.w1 (16 * sample_at s.now (fu + j)) (even_f s.now (sa + j) (sb + j) n (sample_at s.now (fu + j))) (16 * sample_at s.now (fu + j)))) to n out.old }
-{
-    let mut j = 0;
-    while j < n {
-        let v = only0_even_at(s, sa + j, sb + j, fu + j, n, m);
-        out[to + j] = v;
-        j += 1;
-    }
-}
-
-// Radius 0 in pass 1, at an odd row.
-pub fn only0_odd_at(s: &[i32], sa: usize, sb: usize, fu: usize, m: Mix) -> i32
-    requires { Source 1 fu s.now × Sixes 1 sa sb s.now × Mixed m }
-    ensures { result ≡ pos (guided.project m.depth m.w0 m.w1 (16 * sample_at s.now fu) (odd_f s.now sa sb (sample_at s.now fu)) (16 * sample_at s.now fu)) }
-{
-    let u = word(s, fu);
-    project(u, f0_odd_at(s, sa, sb, u), 16 * u, m)
-}
-
-pub fn only0_odd_row(
-    out: &mut [i32],
-    to: usize,
-    s: &[i32],
-    sa: usize,
-    sb: usize,
-    fu: usize,
-    n: usize,
-    m: Mix,
-)
-    requires { (to + n ≤ length out.old) × Source n fu s.now × Sixes n sa sb s.now × Mixed m }
-    ensures { out.new ≡ stamp (λ j. pos (guided.project m.depth m.w0 m.w1 (16 * sample_at s.now (fu + j)) (odd_f s.now (sa + j) (sb + j) (sample_at s.now (fu + j))) (16 * sample_at s.now (fu + j)))) to n out.old }
-{
-    let mut j = 0;
-    while j < n {
-        let v = only0_odd_at(s, sa + j, sb + j, fu + j, m);
-        out[to + j] = v;
-        j += 1;
+    for j in 0..n {
+        out[to + j] = result_at::<A, B>(s, p, n, j, m);
     }
 }

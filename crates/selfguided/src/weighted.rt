@@ -6,7 +6,7 @@ ghost use Rattle.boxes.specs.Reads.{sample_at, seen};
 ghost use Rattle.selfguided.specs.Weighing.{five_six, crossed};
 
 use boxes::samples::{signed, word};
-use boxes::sums::sum3_at;
+use boxes::sums::sum_at;
 
 pub fn six_at(s: &[i32], i: usize) -> i32
     requires { (i + 2 < length s.now) × Samples 1045245 i (i + 3) s.now }
@@ -19,11 +19,8 @@ pub fn six_row(s: &mut [i32], to: usize, from: usize, n: usize)
     requires { (from + 2 + n ≤ to) × (to + n ≤ length s.old) × Samples 1045245 from (from + 2 + n) s.old }
     ensures { s.new ≡ stamp (λ j. pos (five_six (λ k. sample_at s.old (from + j + k)))) to n s.old }
 {
-    let mut j = 0;
-    while j < n {
-        let v = six_at(s, from + j);
-        s[to + j] = v;
-        j += 1;
+    for j in 0..n {
+        s[to + j] = six_at(s, from + j);
     }
 }
 
@@ -40,6 +37,6 @@ pub fn cross_at(s: &[i32], i: usize, st: usize) -> u32
     requires { (i + 2 * st + 2 < length s.now) × Samples 1045245 i (i + 2 * st + 3) s.now }
     ensures { result ≡ crossed (seen st s.now i) }
 {
-    let all = sum3_at(s, i, 1) + sum3_at(s, i + st, 1) + sum3_at(s, i + 2 * st, 1);
+    let all = sum_at::<1>(s, i, 1) + sum_at::<1>(s, i + st, 1) + sum_at::<1>(s, i + 2 * st, 1);
     4 * all - (ends_at(s, i) + ends_at(s, i + 2 * st))
 }

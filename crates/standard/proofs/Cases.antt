@@ -7,11 +7,9 @@ use Prim.Native.Nat.{ℕ, zero, suc, ◌+◌, ◌/◌, ◌%◌}
 use lib.IntN.{ℤ, pos, negsuc}
 use lib.ListN.{length, take, drop, replicate, set}
 use Rattle.laws.specs.Lists.{listing}
+use Rattle.std.specs.Prelude.{Err}
 use Rattle.standard.specs.declared.Refusal.{Refusal}
 use Rattle.standard.specs.declared.Refusal.TheVariants.{ShortScratch}
-use Rattle.standard.specs.declared.Restored.{Restored}
-use Rattle.standard.specs.declared.Counted.{Counted}
-use Rattle.standard.specs.declared.Placed.{Placed}
 use Rattle.standard.specs.declared.JobRefusal.TheVariants.{NoJob, OverBound, Table}
 use Rattle.standard.specs.declared.Frame.{Frame}
 use Rattle.standard.specs.declared.Scaling.{Scaling}
@@ -206,7 +204,7 @@ job_numbers : map job_refusal_number (NoJob ∷ OverBound ∷ Table ShortScratch
 unfolding job_refusal_number refusal_number
 job_numbers = refl
 
-zeros : (why : Refusal) → ((of_restored (Restored.Refused why)).1 ≡ 0) × ((of_counted (Counted.Refused why)).1 ≡ no_counts) × ((of_placed (Placed.Refused why)).1 ≡ nowhere)
+zeros : (why : Refusal) → ((of_restored (Err why)).1 ≡ 0) × ((of_counted (Err why)).1 ≡ no_counts) × ((of_placed (Err why)).1 ≡ nowhere)
 zeros why = (refl, refl, refl)
 
 -- ---- what belongs to a depth

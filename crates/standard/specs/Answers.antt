@@ -1,21 +1,14 @@
 -- Document 01's number and values for each case of an answer. Beside a refusal counts and rectangle are zeros.
-use Rattle.std.specs.Prelude.{ℕ, ℤ, pos, neg_ℤ}
+use Rattle.std.specs.Prelude.{ℕ, ℤ, pos, neg_ℤ, Result, Ok, Err}
 use Rattle.standard.specs.declared.Refusal.{Refusal}
 use Rattle.standard.specs.declared.Refusal.TheVariants.{BadDepth, BadPlane, BadFrameType, BadFrameSide, BadUnitSize, WidthShrinks, BadShape, NotWider, BadEdgeRows, BadUnitTable, BadUnit, BadMarks, BadIndex, AlreadyRestored, BadSample, ShortScratch}
-use Rattle.standard.specs.declared.Restored.{Restored}
-use Rattle.standard.specs.declared.Stored.{Stored}
 use Rattle.standard.specs.declared.Counts.{Counts}
-use Rattle.standard.specs.declared.Counted.{Counted}
 use Rattle.standard.specs.declared.Geometry.{Geometry}
-use Rattle.standard.specs.declared.Placed.{Placed}
-use Rattle.standard.specs.declared.Sampled.{Sampled}
 use Rattle.standard.specs.declared.Frame.{Frame}
 use Rattle.standard.specs.declared.Sections.{Sections}
 use Rattle.standard.specs.declared.JobRefusal.{JobRefusal}
 use Rattle.standard.specs.declared.JobRefusal.TheVariants.{NoJob, OverBound, Table}
-use Rattle.standard.specs.declared.JobRead.{JobRead}
 use Rattle.standard.specs.declared.Report.{Report}
-use Rattle.standard.specs.declared.JobRan.{JobRan}
 
 unfoldable pub refusal_number : Refusal → ℕ
 refusal_number BadDepth = 1
@@ -52,30 +45,32 @@ nowhere = record {
   plane_end_y = pos 0;
 }
 
+-- an answer as a number and a value: 0 and what is done, or the refusal's number and `none`
+abbrev pub answer_of : {A E : Type 0} → (E → ℕ) → A → Result A E → ℕ × A
+answer_of number none (Ok done) = (0, done)
+answer_of number none (Err why) = (number why, none)
+
 -- whole plane: number and `changed`
-abbrev pub of_restored : Restored → ℕ × ℕ
-of_restored (Restored.Done changed) = (0, changed)
-of_restored (Restored.Refused why) = (refusal_number why, 0)
+abbrev pub of_restored : Result ℕ Refusal → ℕ × ℕ
+of_restored = answer_of refusal_number 0
 
 -- capture, one stripe in place, upscale: the number
-abbrev pub of_stored : Stored → ℕ
-of_stored Stored.Done = 0
-of_stored (Stored.Refused why) = refusal_number why
+abbrev pub of_stored : Result (Unit {0}) Refusal → ℕ
+of_stored (Ok _) = 0
+of_stored (Err why) = refusal_number why
 
 -- number and counts
-abbrev pub of_counted : Counted → ℕ × Counts
-of_counted (Counted.Done counts) = (0, counts)
-of_counted (Counted.Refused why) = (refusal_number why, no_counts)
+abbrev pub of_counted : Result Counts Refusal → ℕ × Counts
+of_counted = answer_of refusal_number no_counts
 
 -- number and rectangle
-abbrev pub of_placed : Placed → ℕ × Geometry
-of_placed (Placed.Done place) = (0, place)
-of_placed (Placed.Refused why) = (refusal_number why, nowhere)
+abbrev pub of_placed : Result Geometry Refusal → ℕ × Geometry
+of_placed = answer_of refusal_number nowhere
 
 -- the sample, or minus the number
-abbrev pub of_sampled : Sampled → ℤ
-of_sampled (Sampled.Done sample) = pos sample
-of_sampled (Sampled.Refused why) = neg_ℤ (pos (refusal_number why))
+abbrev pub of_sampled : Result ℕ Refusal → ℤ
+of_sampled (Ok sample) = pos sample
+of_sampled (Err why) = neg_ℤ (pos (refusal_number why))
 
 -- ---- jobs: the extra results, and the table's
 unfoldable pub job_refusal_number : JobRefusal → ℕ
@@ -93,11 +88,9 @@ unfoldable pub no_report : Report
 no_report = record { plane = 0; width = 0; height = 0; stripes = 0; changed = 0; differs = 0 }
 
 -- the reader: number, frame and counts
-abbrev pub of_job_read : JobRead → ℕ × Sections
-of_job_read (JobRead.Done sections) = (0, sections)
-of_job_read (JobRead.Refused why) = (job_refusal_number why, no_sections)
+abbrev pub of_job_read : Result Sections JobRefusal → ℕ × Sections
+of_job_read = answer_of job_refusal_number no_sections
 
 -- the job program: number and what it prints beside the rows
-abbrev pub of_job_ran : JobRan → ℕ × Report
-of_job_ran (JobRan.Done report) = (0, report)
-of_job_ran (JobRan.Refused why) = (job_refusal_number why, no_report)
+abbrev pub of_job_ran : Result Report JobRefusal → ℕ × Report
+of_job_ran = answer_of job_refusal_number no_report

@@ -1,5 +1,8 @@
-// The types that definitions and code share. No code: the meaning is in specs/.
+// The types that definitions and code share, and the numbers of refusals. The meaning is in specs/.
 #![tactic(auto)]
+
+ghost use Rattle.std.specs.Prelude.{◌≡◌};
+ghost use Rattle.standard.specs.Answers.{refusal_number, job_refusal_number};
 
 // Bit depth 8, 10 or 12.
 #[derive(Clone, Copy)]
@@ -73,7 +76,7 @@ pub struct Scaling {
     pub out_cols: u32,
 }
 
-#[derive(Clone, Copy)]
+#[derive(Clone, Copy, Default)]
 pub struct Counts {
     pub unit_rows: u32,
     pub unit_cols: u32,
@@ -82,7 +85,7 @@ pub struct Counts {
 }
 
 // One stripe's part of one unit column, or one 4x4 luma block: the unit it names, its place and size, its stripe and the plane's ends.
-#[derive(Clone, Copy)]
+#[derive(Clone, Copy, Default)]
 pub struct Geometry {
     pub unit_row: u32,
     pub unit_col: u32,
@@ -117,36 +120,30 @@ pub enum Refusal {
     ShortScratch,
 }
 
-// The answer of whole-plane restore: `changed`, or the refusal.
-#[derive(Clone, Copy)]
-pub enum Restored {
-    Done(u32),
-    Refused(Refusal),
-}
+impl From<Refusal> for u32 {
+    ghost from_gives = { λ why n. n ≡ refusal_number why };
 
-// The answer of a call whose result is in a lent slice alone: capture, one stripe in place, upscale.
-#[derive(Clone, Copy)]
-pub enum Stored {
-    Done,
-    Refused(Refusal),
-}
-
-#[derive(Clone, Copy)]
-pub enum Counted {
-    Done(Counts),
-    Refused(Refusal),
-}
-
-#[derive(Clone, Copy)]
-pub enum Placed {
-    Done(Geometry),
-    Refused(Refusal),
-}
-
-#[derive(Clone, Copy)]
-pub enum Sampled {
-    Done(u32),
-    Refused(Refusal),
+    #[tactic(auto, unfolding(crate::specs::Answers::refusal_number))]
+    fn from(why: Refusal) -> u32 {
+        match why {
+            Refusal::BadDepth => 1,
+            Refusal::BadPlane => 2,
+            Refusal::BadFrameType => 3,
+            Refusal::BadFrameSide => 4,
+            Refusal::BadUnitSize => 5,
+            Refusal::WidthShrinks => 6,
+            Refusal::BadShape => 7,
+            Refusal::NotWider => 8,
+            Refusal::BadEdgeRows => 9,
+            Refusal::BadUnitTable => 10,
+            Refusal::BadUnit => 11,
+            Refusal::BadMarks => 12,
+            Refusal::BadIndex => 13,
+            Refusal::AlreadyRestored => 14,
+            Refusal::BadSample => 15,
+            Refusal::ShortScratch => 16,
+        }
+    }
 }
 
 // A job as it is read: its frame numbers, and how many entries its other sections have.
@@ -166,11 +163,27 @@ pub enum JobRefusal {
     Table(Refusal),
 }
 
-// The answer of the reader of jobs.
-#[derive(Clone, Copy)]
-pub enum JobRead {
-    Done(Sections),
-    Refused(JobRefusal),
+impl From<Refusal> for JobRefusal {
+    ghost use Rattle.standard.specs.declared.JobRefusal.TheVariants.{Table};
+
+    ghost from_gives = { λ why job. job ≡ Table why };
+
+    fn from(why: Refusal) -> JobRefusal {
+        JobRefusal::Table(why)
+    }
+}
+
+impl From<JobRefusal> for u32 {
+    ghost from_gives = { λ why n. n ≡ job_refusal_number why };
+
+    #[tactic(auto, unfolding(crate::specs::Answers::job_refusal_number))]
+    fn from(why: JobRefusal) -> u32 {
+        match why {
+            JobRefusal::NoJob => 17,
+            JobRefusal::OverBound => 18,
+            JobRefusal::Table(why) => u32::from(why),
+        }
+    }
 }
 
 // What the job program prints of a job that is done, beside the restored rows.
@@ -182,10 +195,4 @@ pub struct Report {
     pub stripes: u32,
     pub changed: u32,
     pub differs: u32,
-}
-
-#[derive(Clone, Copy)]
-pub enum JobRan {
-    Done(Report),
-    Refused(JobRefusal),
 }

@@ -1,11 +1,11 @@
 -- What the frame's numbers and a stripe's number give: a legal frame, rows that lie in the plane, and the arms of a typed condition.
 use mathlib.Core.Path.{◌≡◌, refl, sym, ◌∙◌, ap}
-use mathlib.Core.Bool.{Bool, true, false, ◌&&◌, ◌||◌}
+use mathlib.Core.Bool.{Bool, true, false, ◌&&◌}
 use mathlib.Core.List.{List, [], ◌∷◌}
 use Prim.Native.Nat.{ℕ, ◌+◌, ◌-◌, ◌*◌, ◌/◌, ◌^◌, ◌≤◌, ◌<◌, min}
 use native.Mathlib.Omega.{arith}
 use native.Mathlib.Nat.{add-mul, add-sub_cancel_left, mul-le-mul}
-use borrow.Author.Tests.{lt-ltb, le-ltb, eqb-true, not-false}
+use borrow.Author.Tests.{lt-ltb, eqb-true, not-false}
 use lib.Dec.{eqb, leb}
 use lib.IntN.{ℤ}
 use lib.ListN.{length, take, drop}
@@ -13,11 +13,12 @@ use Rattle.laws.specs.Lists.{all}
 use Rattle.laws.specs.Tests.{and_l, is_true, not_no}
 use Rattle.standard.specs.declared.Frame.{Frame}
 use Rattle.standard.specs.Stripes.{stripe_start, stripe_stop, stripes}
-use Rattle.standard.specs.Refusals.{first, no9, no12, plane_height, plane_width, size5, sub_y_of, typed}
+use Rattle.standard.specs.Refusals.{first, frame2, frame4, no9, no12, plane_height, plane_width, size5, sub_y_of, typed}
 use Rattle.standard.specs.Calls.{own_rows}
 use Rattle.standard.proofs.Stripes.{Halved, full, half, stripe_exists}
 use Rattle.standard.proofs.Refusals.{first_here, first_past}
-use Rattle.frames.proofs.Legal.{LegalFrame, halved, legal_frame}
+use Rattle.frames.proofs.Legal.{LegalFrame, halved, legal_frame, passed_between}
+use Rattle.frames.specs.declared.plane.Plane.{Plane}
 use Rattle.geometry.proofs.Laws.{stripes_small}
 use Rattle.stripe_tests.specs.Parts.{Numbered}
 
@@ -25,9 +26,6 @@ pub legal : {f : Frame} → Numbered f → LegalFrame f
 legal {f = f} n = legal_frame f n.plane n.high n.wide
 
 -- ---- a condition that frame type 0 does not give
-pub untyped : (f : Frame) (b : Bool) → f.frame_type ≡ 0 → false ≡ typed f b
-untyped f b e = rw (le-ltb 0 f.frame_type (omega (arith, e)))
-
 pub as_typed : (f : Frame) (b : Bool) → (f.frame_type ≡ 0 → ⊥) → b ≡ typed f b
 as_typed f b e = rw (lt-ltb 0 f.frame_type (omega (arith, e)))
 
@@ -61,9 +59,8 @@ pub record Rows (h sy s : ℕ) : Type 0 where
   pub inside : min h (stripe_stop sy s) ≤ h
   pub high : min h (stripe_stop sy s) - stripe_start sy s ≤ min h (64 / 2 ^ sy)
 
-pub rows_of : {f : Frame} → Numbered f → (s : ℕ) → s < stripes (sub_y_of f) (plane_height f) → Rows (plane_height f) (sub_y_of f) s
-rows_of {f = f} n s l =
-    let g = legal n in
+pub rows_of_legal : {f : Frame} → LegalFrame f → (s : ℕ) → s < stripes (sub_y_of f) (plane_height f) → Rows (plane_height f) (sub_y_of f) s
+rows_of_legal {f = f} g s l =
     let hv = halved (sub_y_of f) g.own_y in
     let p = (stripe_exists hv (plane_height f) s g.rows).0 l in
     record {
@@ -73,6 +70,9 @@ rows_of {f = f} n s l =
       inside = omega arith;
       high = stripe_high hv (plane_height f) s p;
     }
+
+pub rows_of : {f : Frame} → Numbered f → (s : ℕ) → s < stripes (sub_y_of f) (plane_height f) → Rows (plane_height f) (sub_y_of f) s
+rows_of n s l = rows_of_legal (legal n) s l
 
 -- rows start .. stop of a plane of h rows lie in it
 pub rows_fit : (h w start stop : ℕ) → start ≤ stop → stop ≤ h → start * w + (stop - start) * w ≤ h * w
@@ -84,21 +84,6 @@ pub rows_held : (h w start stop wide a b n : ℕ) → wide ≡ w → a ≡ start
 rows_held h w start stop wide a b n ew ea eb p q e = rw (ew, ea, eb) (omega (arith, rows_fit h w start stop p q, e))
 
 -- ---- what is left of a test of two or three conditions
-pub or_left : (a b : Bool) → a ≡ true → true ≡ (a || b)
-or_left a b e = rw e
-
-pub or_right : (a b : Bool) → a ≡ false → b ≡ (a || b)
-or_right a b e = rw e
-
-pub or_first : (a b c : Bool) → a ≡ true → true ≡ (a || b || c)
-or_first a b c e = rw e
-
-pub or_second : (a b c : Bool) → a ≡ false → b ≡ true → true ≡ (a || b || c)
-or_second a b c e h = rw (e, h)
-
-pub or_third : (a b c : Bool) → a ≡ false → b ≡ false → c ≡ (a || b || c)
-or_third a b c e h = rw (e, h)
-
 -- ---- the part that is lent
 pub own_part : (f : Frame) (P : List ℤ) (s wide a b : ℕ) → wide ≡ plane_width f → a ≡ stripe_start (sub_y_of f) s → b ≡ min (plane_height f) (stripe_stop (sub_y_of f) s) →
     take (a * wide + (b - a) * wide - a * wide) (drop (a * wide) P) ≡ own_rows f P s
@@ -114,6 +99,10 @@ here n b l e = sym (first_here n b l e)
 
 pub past : (m n : ℕ) (b : Bool) (l : List (ℕ × Bool)) → b ≡ false → m ≡ first l → m ≡ first ((n, b) ∷ l)
 past m n b l e h = h ∙ sym (first_past n b l e)
+
+-- 2, 3 and 4, where a plane of the frame is known
+pub past_plane : (p : Plane) (f : Frame) → p.frame ≡ f → (c : Bool) (l : List (ℕ × Bool)) (m : ℕ) → c ≡ false → m ≡ first l → m ≡ first (frame2 f ∷ (3, c) ∷ frame4 f ∷ l)
+past_plane p f q c l m z e = e ∙ sym (passed_between p c l z) ∙ ap (λ (g : Frame). first (frame2 g ∷ (3, c) ∷ frame4 g ∷ l)) q
 
 pub none : 0 ≡ first []
 unfolding first

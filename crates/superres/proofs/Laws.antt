@@ -1,23 +1,23 @@
 -- Laws of positions: the divisions toward zero, step and start within their bounds, and place and phase as natural numbers.
-use mathlib.Core.Path.{◌≡◌, refl, sym, ◌∙◌, ap, subst}
+use mathlib.Core.Path.{◌≡◌, sym, ◌∙◌, ap, subst}
 use mathlib.Core.Logic.{◌⊎◌, inl, inr}
 use Prim.Native.Nat.{ℕ, zero, suc, ◌+◌, ◌-◌, ◌*◌, ◌/◌, ◌%◌, ◌^◌, ◌≤◌, ◌<◌, min}
 use native.Mathlib.Omega.{arith}
 use native.Mathlib.Nat.{div-mul-le_self, lt-div-mul-add, div-le_self, mul-le-mul, mul_comm, suc-mul, mul-suc, le_refl, zero-div}
 use lib.IntN.{ℤ, pos, negsuc, neg_ℤ, nat_abs, +ℤ_idl, ◌+ℤ◌, ◌-ℤ◌}
-use lib.Signed.{◌<ℤ◌, quot_z, shr_z}
+use lib.Signed.{quot_z, shr_z}
 use mir.Syntax.{w32}
 use mir.Val.{SFits, to_z, of_z}
 use mir.Facts.{to_z-of_z}
 use Rattle.laws.specs.Congruence.{ap2}
-use Rattle.laws.specs.Integers.{plus_part, minus_part, eq_out, lt_in}
+use Rattle.laws.specs.Integers.{plus_part, minus_part, eq_out}
 use Rattle.laws.specs.Linear.{#, ◌⊞◌, ◌⊟◌, ◌⊠◌, known_eq, known_le, known_lt, linear_le, ring, shr_low, shr_high, split}
 use Rattle.laws.specs.Index.{lt_or_le}
 use Rattle.laws.specs.Sizes.{fits_abs, abs_in, abs_neg, abs_sub}
 use Rattle.standard.specs.Arithmetic.{wrap, clip_to}
 use Rattle.standard.proofs.Upscaler.{wrap_lt}
 use Rattle.superres.specs.Scaled.{place_at, phase_at}
-use Rattle.standard.specs.Superres.{step, err, start, position, whole, phase, column, last_col}
+use Rattle.standard.specs.Superres.{step, err, start, position, whole, phase, column}
 
 -- ---- division toward zero
 pub quot_size : (x : ℤ) (m : ℕ) → nat_abs (quot_z x (pos m)) ≤ nat_abs x
@@ -33,7 +33,7 @@ pub quot_small : (x y : ℤ) (n : ℕ) → nat_abs x ≤ n → nat_abs (quot_z x
 quot_small x y n h = omega (arith, quot_any x y)
 
 -- what the machine divides, read as x and y: the quotient fits, and is read as the quotient
-pub quot_fits : {r s : ℤ} (x y : ℤ) → r ≡ x → s ≡ y → nat_abs x ≤ 1073741824 → SFits w32 (quot_z r s)
+quot_fits : {r s : ℤ} (x y : ℤ) → r ≡ x → s ≡ y → nat_abs x ≤ 1073741824 → SFits w32 (quot_z r s)
 quot_fits x y p q h = subst (SFits w32) (sym (ap2 quot_z p q)) (fits_abs 1073741824 (quot_small x y 1073741824 h) tt)
 
 pub quot_read : {r s : ℤ} (x y : ℤ) → r ≡ x → s ≡ y → nat_abs x ≤ 1073741824 → to_z w32 (of_z w32 (quot_z r s)) ≡ quot_z x y
@@ -48,10 +48,6 @@ pub quot_back : (a b m : ℕ) → a ≤ b → quot_z (pos a -ℤ pos b) (pos m) 
 quot_back a b m h =
     ap (λ (z : ℤ). quot_z z (pos m)) (ring (# (pos a) ⊟ # (pos b)) (# (pos 0) ⊟ # (pos (b - a))) (omega arith) ∙ +ℤ_idl (neg_ℤ (pos (b - a))))
     ∙ minus_quot (b - a) m
-
-pub quot_negative : (x : ℤ) (m : ℕ) → x <ℤ pos 0 → pos 0 -ℤ pos (nat_abs (pos 0 -ℤ x) / m) ≡ quot_z x (pos m)
-quot_negative (pos n) m h = absurd (omega (arith, lt_in h))
-quot_negative (negsuc n) m h = +ℤ_idl (neg_ℤ (pos ((0 + suc n) / m))) ∙ ap (λ (k : ℕ). neg_ℤ (pos (k / m))) (omega arith)
 
 -- ---- step, err and start
 pub step_high : (d u : ℕ) → u * step d u ≤ 16384 * d + u / 2
@@ -144,14 +140,3 @@ start_small d u = wrap_lt 16384 _ (omega arith)
 -- the last column reads at most two places past the row's own width
 pub place_small : (d u x : ℕ) → x < u → u ≤ 16384 → place_at (start d u) (step d u) x ≤ d + 1
 place_small d u x h k = omega (arith, start_small d u, step_high d u, mul-le-mul {n₁ = suc x} {m₁ = step d u} {n₂ = u} {m₂ = step d u} h (le_refl (step d u)), suc-mul x (step d u))
-
--- ---- the first clip's column
-pub last_full : (frame n : ℕ) → n ≡ 0 → 4 * (2 * ((frame + 7) / 8)) - 1 ≡ last_col frame n
-unfolding last_col
-last_full frame n e = sym (ap (λ (k : ℕ). 4 * (2 * ((frame + 7) / 8) / 2 ^ k) - 1) e ∙ omega arith)
-
-pub last_half : (frame n : ℕ) → n ≤ 1 → (n ≡ 0 → ⊥) → 4 * (2 * ((frame + 7) / 8) / 2) - 1 ≡ last_col frame n
-unfolding last_col
-last_half frame zero h p = absurd (p refl)
-last_half frame (suc zero) h p = refl
-last_half frame (suc (suc n)) h p = absurd (omega arith)

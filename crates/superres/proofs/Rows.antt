@@ -27,7 +27,7 @@ place_near : (start step x m : ℕ) → step ≤ 16384 → m ≤ 1023 → place_
 place_near start step x m p q = omega (arith, add-mul x m step, mul_small {y = m} {w = step} 1023 16384 q p)
 
 -- ---- taps
-tap_small : (f k : ℕ) → f < 64 → k < 8 → nat_abs (up_tap f k) ≤ 128
+pub tap_small : (f k : ℕ) → f < 64 → k < 8 → nat_abs (up_tap f k) ≤ 128
 unfolding all_below up_tap upscale_filter
 tap_small f k p q = leb→le _ 128 (below_at 8 (λ k. leb (nat_abs (up_tap f k)) 128) (below_at 64 (λ f. all_below 8 (λ k. leb (nat_abs (up_tap f k)) 128)) tt f p) k q)
 

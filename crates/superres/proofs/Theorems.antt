@@ -1,5 +1,6 @@
 -- What a caller gets from `upscale_plane`'s promise: no second answer and no second output satisfy it; every output sample is in range; a
 -- constant row stays constant.
+use Rattle.std.specs.Prelude.{Result}
 use mathlib.Core.Path.{◌≡◌, refl, sym, ◌∙◌, ap, subst}
 use mathlib.Core.Bool.{Bool, true, false}
 use mathlib.Core.List.{List}
@@ -16,7 +17,7 @@ use Rattle.laws.specs.Lists.{plane, plane_at}
 use Rattle.laws.specs.Tests.{cond_true}
 use Rattle.standard.specs.declared.Depth.{Depth}
 use Rattle.standard.specs.declared.Scaling.{Scaling}
-use Rattle.standard.specs.declared.Stored.{Stored}
+use Rattle.standard.specs.declared.Refusal.{Refusal}
 use Rattle.standard.specs.Answers.{of_stored}
 use Rattle.standard.specs.Arithmetic.{round2, clip_to}
 use Rattle.standard.specs.Calls.{upscaled_slice, upscale_out}
@@ -31,11 +32,11 @@ use Rattle.standard.proofs.Upscaler.{column_lt, upscaled_flat, upscaled_range}
 use Rattle.superres.proofs.Clean.{Clean, clean, sample, some_cols, out_is}
 
 -- ---- the promise, and that it leaves nothing open
-pub record Promised (s : Scaling) (input output : List ℤ) (answer : Stored) (after : List ℤ) : Type 0 where
+pub record Promised (s : Scaling) (input output : List ℤ) (answer : Result (Unit {0}) Refusal) (after : List ℤ) : Type 0 where
   pub number : of_stored answer ≡ first (upscale_tests s input (length output))
   pub slice : after ≡ upscale_out s input output
 
-pub upscale_once : {s : Scaling} {input output : List ℤ} {r q : Stored} {o p : List ℤ} → Promised s input output r o → Promised s input output q p → (r ≡ q) × (o ≡ p)
+pub upscale_once : {s : Scaling} {input output : List ℤ} {r q : Result (Unit {0}) Refusal} {o p : List ℤ} → Promised s input output r o → Promised s input output q p → (r ≡ q) × (o ≡ p)
 upscale_once {r = r} {q = q} a b = (stored_once r q (a.number ∙ sym b.number), a.slice ∙ sym b.slice)
 
 -- ---- where the number is 0

@@ -6,29 +6,25 @@ ghost use Rattle.standard.specs.Superres as superres;
 ghost use Rattle.superres.specs.Sides.{Sided, Planned};
 
 use super::block::Plan;
-use super::positions::{start_of, step_of};
-use super::row::least;
+use super::positions::Widths;
 use frames::{extent, sub_of};
 use numbers::{depth_of, largest};
 use standard::Scaling;
 
 // The first clip's column: MiCols is 2 * ((frame width + 7) >> 3).
+#[tactic(auto, unfolding(standard::specs::Superres::last_col))]
 fn last_col(frame: u32, sub_x: u32) -> u32
     requires { (0 < frame) × (frame ≤ 16384) × (sub_x ≤ 1) }
     ensures { result ≡ superres.last_col frame sub_x }
 {
     let cols = 2 * ((frame + 7) / 8);
-    if sub_x == 0 {
-        return 4 * cols - 1;
-    }
-    4 * (cols / 2) - 1
+    4 * (cols >> sub_x) - 1
 }
 
 fn top_of(depth: u32) -> u32
     ensures { result ≡ depths.largest (depths.depth_of depth) }
 {
-    let d = depth_of(depth);
-    largest(d) as u32
+    largest(depth_of(depth)) as u32
 }
 
 // Both clips are one, to the smaller of the two last columns.
@@ -37,9 +33,7 @@ fn last_of(s: Scaling) -> usize
     ensures { result ≡ min (superres.last_col s.frame_width (sub_of s.plane s.sub_x)) (s.in_cols - 1) }
 {
     let sub = sub_of(s.plane, s.sub_x);
-    let frame = last_col(s.frame_width, sub) as usize;
-    let row = s.in_cols as usize - 1;
-    least(frame, row)
+    last_col(s.frame_width, sub).min(s.in_cols - 1) as usize
 }
 
 pub fn plan_of(s: Scaling) -> Plan
@@ -49,17 +43,14 @@ pub fn plan_of(s: Scaling) -> Plan
     let d = extent(s.plane, s.sub_x, s.frame_width);
     let u = extent(s.plane, s.sub_x, s.upscaled_width);
     let h = extent(s.plane, s.sub_y, s.frame_height);
-    let step = step_of(d, u);
-    let start = start_of(d, u, step);
-    let last = last_of(s);
-    let top = top_of(s.depth);
+    let w = Widths { d, u };
     Plan {
-        start: start as usize,
-        step: step as usize,
-        last,
+        start: w.start() as usize,
+        step: w.step() as usize,
+        last: last_of(s),
         cols: s.in_cols as usize,
         rows: h as usize,
         width: u as usize,
-        top,
+        top: top_of(s.depth),
     }
 }

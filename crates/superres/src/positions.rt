@@ -6,56 +6,39 @@ ghost use Rattle.laws.specs.Runs.{stamp};
 ghost use Rattle.standard.specs.Superres as superres;
 ghost use Rattle.superres.specs.Scaled.{place_at, phase_at};
 
-pub fn step_of(d: u32, u: u32) -> u32
-    requires { (d < u) × (u ≤ 16384) }
-    ensures { result ≡ superres.step d u }
-{
-    (16384 * d + u / 2) / u
+use super::block::Plan;
+
+// The plane's two widths, downscaled and upscaled.
+#[derive(Clone, Copy)]
+pub struct Widths {
+    pub d: u32,
+    pub u: u32,
+    ghost grows: { (d < u) × (u ≤ 16384) },
 }
 
-fn err_of(d: u32, u: u32, step: u32) -> i32
-    requires { (d < u) × (u ≤ 16384) × (step ≡ superres.step d u) }
-    ensures { result ≡ superres.err d u }
-{
-    (u * step) as i32 - (16384 * d) as i32
-}
-
-// The quotient of a size, as that of a negative number toward zero.
-fn part(n: u32, m: u32) -> u32
-    requires { (0 < m) × (m ≤ 16384) × (n ≤ 134217728) }
-    ensures { result ≡ n / m }
-{
-    n / m
-}
-
-// The half of a size, as that of a negative number toward zero.
-fn half(n: u32) -> u32
-    requires { n ≤ 16384 }
-    ensures { result ≡ n / 2 }
-{
-    n / 2
-}
-
-// Half of err, toward zero.
-fn halved(x: i32) -> i32
-    requires { nat_abs x ≤ 16384 }
-    ensures { result ≡ quot_z x (pos 2) }
-{
-    if x < 0 {
-        return 0 - half((0 - x) as u32) as i32;
+impl Widths {
+    #[tactic(auto, unfolding(standard::specs::Superres::step))]
+    pub fn step(self) -> u32
+        ensures { result ≡ superres.step self.d self.u }
+    {
+        (16384 * self.d + self.u / 2) / self.u
     }
-    x / 2
-}
 
-// Both divisions go toward zero. The first dividend is never positive, so its size is divided. 32896 is 128 and twice 16384: the sum is
-// not negative, and its remainder is the same.
-pub fn start_of(d: u32, u: u32, step: u32) -> u32
-    requires { (d < u) × (u ≤ 16384) × (step ≡ superres.step d u) }
-    ensures { result ≡ superres.start d u }
-{
-    let back = part((u - d) * 8192 - u / 2, u);
-    let half = halved(err_of(d, u, step));
-    ((32896 - back as i32 - half) as u32) % 16384
+    fn err(self) -> i32
+        ensures { result ≡ superres.err self.d self.u }
+    {
+        (self.u * self.step()) as i32 - (16384 * self.d) as i32
+    }
+
+    // Both divisions go toward zero. The first dividend is never positive, so its size is divided. 32896 is 128 and twice 16384: the sum
+    // is not negative, and its remainder is the same.
+    pub fn start(self) -> u32
+        ensures { result ≡ superres.start self.d self.u }
+    {
+        let back = ((self.u - self.d) * 8192 - self.u / 2) / self.u;
+        let half = self.err() / 2;
+        ((32896 - back as i32 - half) as u32) % 16384
+    }
 }
 
 fn place_of(at: usize, q0: usize) -> u16
@@ -73,19 +56,17 @@ fn row_of(at: usize) -> u16
 }
 
 // Places, counted from the block's first, and tap rows of n columns from x0 on: one running sum.
-pub fn places(ps: &mut [u16], fs: &mut [u16], start: usize, step: usize, x0: usize, n: usize)
+pub fn places(ps: &mut [u16], fs: &mut [u16], p: Plan, x0: usize, n: usize)
     requires n_in_bounds { (n ≤ length ps.old) × (n ≤ length fs.old) × (n ≤ 1024) }
-    requires start_bound { (start ≤ 16384) × (step ≤ 16384) × (x0 ≤ 16384) }
-    ensures ps_after { ps.new ≡ stamp (λ x. place_at start step (x0 + x) - place_at start step x0) 0 n ps.old }
-    ensures fs_after { fs.new ≡ stamp (λ x. phase_at start step (x0 + x) * 8) 0 n fs.old }
+    requires start_bound { (p.start ≤ 16384) × (p.step ≤ 16384) × (x0 ≤ 16384) }
+    ensures ps_after { ps.new ≡ stamp (λ x. place_at p.start p.step (x0 + x) - place_at p.start p.step x0) 0 n ps.old }
+    ensures fs_after { fs.new ≡ stamp (λ x. phase_at p.start p.step (x0 + x) * 8) 0 n fs.old }
 {
-    let mut at = start + x0 * step;
+    let mut at = p.start + x0 * p.step;
     let q0 = at / 16384;
-    let mut x = 0;
-    while x < n {
+    for x in 0..n {
         ps[x] = place_of(at, q0);
         fs[x] = row_of(at);
-        at += step;
-        x += 1;
+        at += p.step;
     }
 }

@@ -5,6 +5,7 @@ ghost use Rattle.laws.specs.Bounds.{Sized};
 ghost use Rattle.standard.specs.Arithmetic as arithmetic;
 ghost use Rattle.superres.specs.Scaled.{dot, Reach, Cut};
 
+use super::block::Part;
 use numbers::{clip1, round2};
 use runs::{narrow_run, repeat_narrow};
 
@@ -17,33 +18,14 @@ pub struct Runs {
     pub right: usize,
 }
 
-// a - b, or 0.
-fn above(a: usize, b: usize) -> usize
-    ensures { result ≡ a - b }
+fn cut(b: Part, last: usize) -> Runs
+    requires { (8 ≤ b.need) × (b.need ≤ 1040) × (b.q0 ≤ last + 4) × (last ≤ 16392) }
+    ensures { Cut b.q0 b.need last result.left result.at result.mid result.right }
 {
-    if a < b {
-        return 0;
-    }
-    a - b
-}
-
-pub fn least(a: usize, b: usize) -> usize
-    ensures { result ≡ min a b }
-{
-    if a < b {
-        return a;
-    }
-    b
-}
-
-fn cut(q0: usize, n: usize, last: usize) -> Runs
-    requires { (8 ≤ n) × (n ≤ 1040) × (q0 ≤ last + 4) × (last ≤ 16392) }
-    ensures { Cut q0 n last result.left result.at result.mid result.right }
-{
-    let left = above(4, q0);
-    let at = above(q0, 4);
-    let rest = n - left;
-    let mid = least(rest, last + 1 - at);
+    let left = 4usize.saturating_sub(b.q0);
+    let at = b.q0.saturating_sub(4);
+    let rest = b.need - left;
+    let mid = rest.min(last + 1 - at);
     Runs {
         left,
         at,
@@ -52,13 +34,13 @@ fn cut(q0: usize, n: usize, last: usize) -> Runs
     }
 }
 
-// r[k] is the row's sample at column q0 + k - 4, clipped to 0 .. last, for k < n.
-pub fn edged(r: &mut [i16], src: &[i32], from: usize, q0: usize, n: usize, last: usize)
-    requires le_n { (8 ≤ n) × (n ≤ 1040) × (q0 ≤ last + 4) × (last ≤ 16392) }
-    requires n_in_bounds { (n ≤ length r.old) × (from + last < length src.now) × (Sized 32767 from (from + last + 1) src.now) }
-    ensures { r.new ≡ stamp (λ k. get_or src.now (from + min (q0 + k - 4) last) (pos 0)) 0 n r.old }
+// r[k] is the row's sample at column q0 + k - 4, clipped to 0 .. last, for k < need.
+pub fn edged(r: &mut [i16], src: &[i32], from: usize, b: Part, last: usize)
+    requires le_n { (8 ≤ b.need) × (b.need ≤ 1040) × (b.q0 ≤ last + 4) × (last ≤ 16392) }
+    requires n_in_bounds { (b.need ≤ length r.old) × (from + last < length src.now) × (Sized 32767 from (from + last + 1) src.now) }
+    ensures { r.new ≡ stamp (λ k. get_or src.now (from + min (b.q0 + k - 4) last) (pos 0)) 0 b.need r.old }
 {
-    let c = cut(q0, n, last);
+    let c = cut(b, last);
     repeat_narrow(r, 0, src, from, c.left);
     narrow_run(r, c.left, src, from + c.at, c.mid);
     repeat_narrow(r, c.left + c.mid, src, from + last, c.right);
@@ -85,11 +67,8 @@ pub fn sums(line: &mut [i32], n: usize, r: &[i16], ps: &[u16], fs: &[u16], t: &[
     requires in_bounds { (512 ≤ length t.now) × (Sized 128 0 512 t.now) }
     ensures { line.new ≡ stamp (λ x. dot r.now (get_or ps.now x 0) t.now (get_or fs.now x 0)) 0 n line.old }
 {
-    let mut x = 0;
-    while x < n {
-        let v = dot8(r, ps[x] as usize, t, fs[x] as usize);
-        line[x] = v;
-        x += 1;
+    for x in 0..n {
+        line[x] = dot8(r, usize::from(ps[x]), t, usize::from(fs[x]));
     }
 }
 
@@ -105,10 +84,7 @@ pub fn settle(out: &mut [i32], to: usize, line: &[i32], n: usize, top: u32)
     requires { (to + n ≤ length out.old) × (n ≤ length line.now) × (top ≤ 4095) × (Sized 4193280 0 n line.now) }
     ensures { out.new ≡ stamp (λ x. pos (arithmetic.clip_to top (arithmetic.round2 7 (get_or line.now x (pos 0))))) to n out.old }
 {
-    let mut x = 0;
-    while x < n {
-        let v = settled(line[x], top);
-        out[to + x] = v;
-        x += 1;
+    for x in 0..n {
+        out[to + x] = settled(line[x], top);
     }
 }

@@ -71,17 +71,11 @@ const TAPS: [[i16; 8]; 64] = [
 ];
 
 // A constant array is laid down on the stack wherever it is named: a call names it once, here, and lends it.
+#[tactic(auto, unfolding(standard::specs::UpscaleFilter::upscale_filter))]
 pub fn table() -> [[i16; 8]; 64]
     ensures { result ≡ upscale_filter }
 {
     TAPS
-}
-
-fn tap(tab: &[[i16; 8]; 64], phase: usize, k: usize) -> i16
-    requires { (phase < 64) × (k < 8) }
-    ensures { result ≡ get_or (get_or tab.now phase []) k (pos 0) }
-{
-    tab[phase][k]
 }
 
 // The table row after row: tap k of a phase at 8 * phase + k.
@@ -89,10 +83,7 @@ pub fn lay(t: &mut [i16], tab: &[[i16; 8]; 64])
     requires { (512 ≤ length t.old) × (tab.now ≡ upscale_filter) }
     ensures { t.new ≡ stamp (λ i. up_tap (i / 8) (i % 8)) 0 512 t.old }
 {
-    let mut i = 0;
-    while i < 512 {
-        let v = tap(tab, i / 8, i % 8);
-        t[i] = v;
-        i += 1;
+    for i in 0..512 {
+        t[i] = tab[i / 8][i % 8];
     }
 }

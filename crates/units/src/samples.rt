@@ -2,13 +2,14 @@
 ghost use Rattle.std.specs.Prelude.{◌≡◌, false, pos, length};
 ghost use Rattle.laws.specs.Lists.{all_below};
 ghost use Rattle.standard.specs.Units.{between};
-ghost use Rattle.standard.specs.Refusals.{no1};
+ghost use Rattle.standard.specs.Refusals.{no1, no15};
 ghost use Rattle.units.specs.First.{failed, in_range, first_failing, first_outside};
 
 use numbers::{depth_of, largest};
 
-// 1 for a sample out of range, else 0. A number, since a loop that joins bools is not made with vectors. The top is of 16 bits and no test
-// is a branch: so the compiler knows that the top is not negative, and makes one unsigned comparison of both.
+// 1 for a sample out of range, else 0. The top is of 16 bits and no test is a branch: so the compiler knows that the top is not negative, and
+// makes one unsigned comparison of both.
+// Stays: speed. A number and no bool, since a loop that joins bools is not made with vectors.
 pub fn outside(top: u16, v: i32) -> u32
     ensures { result ≡ failed (between (pos 0) (pos top) v) }
 {
@@ -21,11 +22,8 @@ pub fn some_outside(s: &[i32], top: u16) -> u32
     ensures { result ≡ failed (all_below (length s.now) (in_range (pos top) s.now)) }
 {
     let mut bad = 0;
-    let mut i = 0;
-    while i < s.len() {
-        let b = outside(top, s[i]);
-        bad = bad | b;
-        i += 1;
+    for v in s {
+        bad |= outside(top, *v);
     }
     bad
 }
@@ -33,14 +31,12 @@ pub fn some_outside(s: &[i32], top: u16) -> u32
 pub fn find_outside(s: &[i32], top: u16) -> usize
     ensures { result ≡ first_failing (length s.now) (in_range (pos top) s.now) }
 {
-    let mut i = 0;
-    while i < s.len() {
+    for i in 0..s.len() {
         if outside(top, s[i]) != 0 {
             return i;
         }
-        i += 1;
     }
-    i
+    s.len()
 }
 
 // The first sample that is not one of the depth, or the number of samples.
@@ -53,4 +49,12 @@ pub fn first_outside(s: &[i32], depth: u32) -> usize
         return s.len();
     }
     find_outside(s, top)
+}
+
+// Number 15: some sample is not one of the depth.
+pub fn out_of_range(s: &[i32], depth: u32) -> bool
+    requires { no1 depth ≡ false }
+    ensures { result ≡ no15 depth s.now }
+{
+    first_outside(s, depth) < s.len()
 }

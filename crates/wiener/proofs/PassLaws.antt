@@ -10,7 +10,7 @@ use lib.ListN.{get_or}
 use lib.Signed.{◌≤ℤ◌, ◌<ℤ◌, mag, shr_z, lt_z}
 use Rattle.laws.specs.Bounds.{Samples, sample_is}
 use Rattle.laws.specs.Congruence.{ap2, ap4}
-use Rattle.laws.specs.Integers.{diff3, differences-out, difference-arith, le_in, le_out, ≤ℤ_trans}
+use Rattle.laws.specs.Integers.{diff3, differences-out, difference-arith, le_in, lt_in, le_out, eq_out, ≤ℤ_trans}
 use Rattle.laws.specs.ReadBack.{integer-order}
 use Rattle.laws.specs.Linear.{#, ◌⊞◌, ◌⊠◌, ring, known_le, known_lt, shr_low, shr_high}
 use Rattle.laws.specs.Polynomial.{X, C, ◌⊹◌, ◌∸ₚ◌, ◌⋆◌, identity}
@@ -25,7 +25,8 @@ use Rattle.standard.specs.Wiener.{tap, clip_mid, across}
 use Rattle.standard.proofs.Arms.{round2_more, clip3_range}
 use Rattle.standard.proofs.Sums.{sum_ℤ_same}
 use Rattle.wiener.specs.declared.Rounding.{Rounding}
-use Rattle.wiener.specs.Passes.{TapRows, Halves, seven, settled, Mild, bias, biased, unbiased, across_at, down_of, down_at}
+use Rattle.wiener.specs.Mild.{Mild}
+use Rattle.wiener.specs.Passes.{TapRows, Halves, seven, settled, bias, biased, unbiased, across_at, down_of, down_at}
 use Rattle.wiener.proofs.TapLaws.{row_tap_lem}
 
 pub r0_low : (d : Depth) → 1 ≤ r0 d
@@ -76,6 +77,13 @@ pub record DownNumbers (d : Depth) (a : Rounding) : Type 0 where
   pub low_is : a.low ≡ pos 0
   pub high_is : a.high ≡ pos (largest d)
 
+-- as the code's contracts have them
+pub across_numbers : {d : Depth} {a : Rounding} → (a.add ≡ pos (2 ^ (r0 d - 1)) +ℤ bias d *ℤ pos (2 ^ r0 d)) × (a.shift ≡ r0 d) → (a.low ≡ negsuc 16383) × (a.high ≡ pos (limit d) -ℤ pos 16384) → AcrossNumbers d a
+across_numbers p q = record { add_is = p.0; shift_is = p.1; low_is = q.0; high_is = q.1 }
+
+pub down_numbers : {d : Depth} {a : Rounding} → (a.add ≡ pos (2 ^ (r1 d - 1)) -ℤ bias d *ℤ pos 128) × (a.shift ≡ r1 d) → (a.low ≡ pos 0) × (a.high ≡ pos (largest d)) → DownNumbers d a
+down_numbers p q = record { add_is = p.0; shift_is = p.1; low_is = q.0; high_is = q.1 }
+
 across_add : (d : Depth) → nat_abs (pos (2 ^ (r0 d - 1)) +ℤ bias d *ℤ pos (2 ^ r0 d)) ≤ 16777216
 unfolding bias
 across_add Eight = lit≤ tt
@@ -104,31 +112,42 @@ down_add Eight = lit≤ tt
 down_add Ten = lit≤ tt
 down_add Twelve = lit≤ tt
 
-pub across_mild : {d : Depth} {a : Rounding} → AcrossNumbers d a → Mild a
-across_mild {d} p = record {
-  add_size = abs_at p.add_is (across_add d);
-  shift_size = omega (arith, p.shift_is, r0_high d);
-  low_size = mag_at p.low_is (lit< tt);
-  high_size = mag_at p.high_is (across_top d);
-  order = order_at p.low_is p.high_is (across_order d);
-}
+module _ (d : Depth) {add low high : ℤ} {shift : ℕ} where
+  pub across_mild : add ≡ pos (2 ^ (r0 d - 1)) +ℤ bias d *ℤ pos (2 ^ r0 d) → shift ≡ r0 d → low ≡ negsuc 16383 → high ≡ pos (limit d) -ℤ pos 16384 → Mild add shift low high
+  across_mild p q r s = record {
+    add_size = abs_at p (across_add d);
+    shift_size = omega (arith, q, r0_high d);
+    low_size = mag_at r (lit< tt);
+    high_size = mag_at s (across_top d);
+    order = order_at r s (across_order d);
+  }
 
-pub down_mild : {d : Depth} {a : Rounding} → DownNumbers d a → Mild a
-down_mild {d} p = record {
-  add_size = abs_at p.add_is (down_add d);
-  shift_size = omega (arith, p.shift_is, r1_high d);
-  low_size = mag_at p.low_is (lit< tt);
-  high_size = mag_at p.high_is (omega (arith, largest_high d));
-  order = order_at p.low_is p.high_is (le_out (omega arith));
-}
+  pub down_mild : add ≡ pos (2 ^ (r1 d - 1)) -ℤ bias d *ℤ pos 128 → shift ≡ r1 d → low ≡ pos 0 → high ≡ pos (largest d) → Mild add shift low high
+  down_mild p q r s = record {
+    add_size = abs_at p (down_add d);
+    shift_size = omega (arith, q, r1_high d);
+    low_size = mag_at r (lit< tt);
+    high_size = mag_at s (omega (arith, largest_high d));
+    order = order_at r s (le_out (omega arith));
+  }
 
 -- ---- the clip: its two ends one after the other, and its size
 above : (lo hi x : ℤ) → lo ≤ℤ hi → hi <ℤ x → lo ≤ℤ x
 above lo hi x p q = omega integer-order
 
-pub clip_ends : (lo hi x : ℤ) → lo ≤ℤ hi → cond (lt_z (cond (lt_z hi x) hi x) lo) lo (cond (lt_z hi x) hi x) ≡ clip3 lo hi x
+-- the lower end is taken by `max`
+lower_end : (lo x : ℤ) → cond (lt_z lo x) x lo ≡ cond (lt_z x lo) lo x
+lower_end lo x = go (lt_z lo x) (lt_z x lo) refl refl
+  where
+    go : (s t : Bool) → lt_z lo x ≡ s → lt_z x lo ≡ t → cond s x lo ≡ cond t lo x
+    go true true e f = absurd (omega (arith, lt_in {x = lo} {y = x} (lt_true e), lt_in {x = x} {y = lo} (lt_true f)))
+    go true false e f = refl
+    go false true e f = refl
+    go false false e f = eq_out lo x (omega (arith, le_in {x = x} {y = lo} (lt_false e), le_in {x = lo} {y = x} (lt_false f)))
+
+pub clip_ends : (lo hi x : ℤ) → lo ≤ℤ hi → cond (lt_z lo (cond (lt_z hi x) hi x)) (cond (lt_z hi x) hi x) lo ≡ clip3 lo hi x
 unfolding clip3
-clip_ends lo hi x h = go (lt_z hi x) refl
+clip_ends lo hi x h = lower_end lo (cond (lt_z hi x) hi x) ∙ go (lt_z hi x) refl
   where
     go : (t : Bool) → lt_z hi x ≡ t → cond (lt_z (cond t hi x) lo) lo (cond t hi x) ≡ cond (lt_z x lo) lo (cond t hi x)
     go true e = ap (λ (s : Bool). cond s lo hi) (false_lt {x = hi} {y = lo} h ∙ sym (false_lt {x = x} {y = lo} (above lo hi x h (lt_true e))))
@@ -140,9 +159,9 @@ mag_between lo (negsuc b) (pos n) p q r s = absurd (omega (arith, le_in s))
 mag_between (negsuc a) hi (negsuc n) p q r s = omega (arith, le_in r)
 mag_between (pos a) hi (negsuc n) p q r s = absurd (omega (arith, le_in r))
 
-pub settled_fits : {a : Rounding} → Mild a → (z : ℤ) → mag (settled a z) < 32768
+pub settled_fits : (a : Rounding) (z : ℤ) → mag (settled a z) < 32768
 unfolding settled
-settled_fits {a} p z = let r = clip3_range a.low a.high (shr_z (z +ℤ a.add) (2 ^ a.shift)) p.order in mag_between _ _ _ p.low_size p.high_size r.0 r.1
+settled_fits a z = let r = clip3_range a.low a.high (shr_z (z +ℤ a.add) (2 ^ a.shift)) a.mild.order in mag_between _ _ _ a.mild.low_size a.mild.high_size r.0 r.1
 
 -- ---- the bias goes through shift and clip
 shift_8 : (x b : ℤ) → shr_z (x +ℤ b *ℤ pos 8) 8 ≡ shr_z x 8 +ℤ b

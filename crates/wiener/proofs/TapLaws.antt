@@ -7,22 +7,18 @@ use native.Mathlib.Nat.{le_trans}
 use lib.Dec.{lit≤}
 use lib.IntN.{ℤ, pos, nat_abs}
 use lib.ListN.{length, get_or}
+use mir.Syntax.{w32}
 use Rattle.laws.specs.Congruence.{ap4}
-use Rattle.laws.specs.SignedCode.{Expression, Var, Lit, ◌⊝◌, ◌⊗◌, ◌⊕◌, bounded}
+use Rattle.laws.specs.SignedCode.{Expression, Var, Lit, ◌⊝◌, ◌⊗◌, ◌⊕◌, read_as, bounded, is_exact}
 use Rattle.laws.specs.Sizes.{abs_in}
 use Rattle.laws.specs.Runs.{stamp, stamp_length, stamp_at, stamp_before}
 use Rattle.laws.specs.Bounds.{Sized}
 use Rattle.standard.specs.declared.Taps.{Taps}
 use Rattle.standard.specs.Wiener.{middle, tap}
 use Rattle.units.specs.Legal.{LegalTaps}
-use Rattle.wiener.specs.Passes.{tap_rows, TapRows, NarrowRows, row_tap}
+use Rattle.wiener.specs.Passes.{tap_rows, TapRows, Small, NarrowRows, row_tap}
 
--- the sizes of three coefficients
-pub record Small (c0 c1 c2 : ℤ) : Type 0 where
-  pub first : nat_abs c0 ≤ 10
-  pub second : nat_abs c1 ≤ 23
-  pub third : nat_abs c2 ≤ 46
-
+-- ---- the sizes of three coefficients
 pub small_vertical : {t : Taps} → LegalTaps t → Small t.v0 t.v1 t.v2
 small_vertical p = record { first = abs_in p.v0_low p.v0_high; second = abs_in p.v1_low p.v1_high; third = abs_in p.v2_low p.v2_high }
 
@@ -36,7 +32,11 @@ middle_code {c0} {c1} {c2} p = Lit (pos 128) ⊝ Lit (pos 2) ⊗ (Var c0 10 p.fi
 pub middle_small : {c0 c1 c2 : ℤ} → Small c0 c1 c2 → nat_abs (middle c0 c1 c2) ≤ 286
 middle_small p = bounded (middle_code p)
 
--- four taps fit 16 bits
+-- the four taps that differ, as the code reads them
+pub four_exact : {c0 c1 c2 : ℤ} (p : Small c0 c1 c2) → read_as w32 (Var c0 10 p.first) ∷ read_as w32 (Var c1 23 p.second) ∷ read_as w32 (Var c2 46 p.third) ∷ read_as w32 (middle_code p) ∷ [] ≡ c0 ∷ c1 ∷ c2 ∷ middle c0 c1 c2 ∷ []
+four_exact {c0} {c1} {c2} p = ap4 (λ a b d m. a ∷ b ∷ d ∷ m ∷ []) (is_exact w32 (Var c0 10 p.first) tt) (is_exact w32 (Var c1 23 p.second) tt) (is_exact w32 (Var c2 46 p.third) tt) (is_exact w32 (middle_code p) tt)
+
+-- they fit 16 bits
 pub four_sized : {c0 c1 c2 : ℤ} {l : List ℤ} → Small c0 c1 c2 → l ≡ c0 ∷ c1 ∷ c2 ∷ middle c0 c1 c2 ∷ [] → Sized 32767 0 4 l
 four_sized {c0} {c1} {c2} p e = record { size = λ k u v. subst (λ (s : List ℤ). nat_abs (get_or s k (pos 0)) ≤ 32767) (sym e) (each k v) }
   where
@@ -110,6 +110,9 @@ narrow_rows p r = record {
     fourth = subst (λ (z : ℤ). nat_abs z ≤ 286) (sym (r.fourth k h)) (middle_small p);
   };
 }
+
+pub narrow_part : {n : ℕ} {tr : List ℤ} (m : ℕ) → m ≤ n → NarrowRows n tr → NarrowRows m tr
+narrow_part m p r = record { here = λ k h. r.here k (omega arith) }
 
 -- so the taps at place k are the seven taps
 pub row_tap_lem : {c0 c1 c2 : ℤ} {n : ℕ} {tr : List ℤ} → TapRows c0 c1 c2 n tr → (k j : ℕ) → k < n → row_tap tr k j ≡ tap c0 c1 c2 j

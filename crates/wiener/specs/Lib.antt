@@ -1,2 +1,3 @@
--- The two passes over rows
+-- What a pass does to a sum, and the two passes over rows
+pub mod Mild
 pub mod Passes

@@ -1,6 +1,6 @@
 -- The two passes of the Wiener filter over rows: the taps repeated along four rows, the middle values kept with a bias, and one sum,
 -- one rounding and one clip for both passes.
-use Rattle.std.specs.Prelude.{◌≡◌, List, [], ◌∷◌, ℕ, ◌+◌, ◌*◌, ◌^◌, ◌<◌, ◌≤◌, ℤ, pos, nat_abs, ◌+ℤ◌, ◌-ℤ◌, ◌*ℤ◌, get_or, ◌≤ℤ◌}
+use Rattle.std.specs.Prelude.{◌≡◌, List, [], ◌∷◌, ℕ, ◌+◌, ◌*◌, ◌^◌, ◌<◌, ◌≤◌, ℤ, pos, nat_abs, ◌+ℤ◌, ◌-ℤ◌, ◌*ℤ◌, get_or}
 use Rattle.std.specs.Int.Signed.{mag, shr_z}
 use Rattle.laws.specs.Runs.{stamp}
 use Rattle.standard.specs.declared.Depth.{Depth}
@@ -14,6 +14,12 @@ use Rattle.wiener.specs.declared.Rounding.{Rounding}
 -- n times each of four taps, 64 places apart
 unfoldable pub tap_rows : ℤ → ℤ → ℤ → ℤ → ℕ → List ℤ → List ℤ
 tap_rows c0 c1 c2 m n tr = stamp (λ _. m) 192 n (stamp (λ _. c2) 128 n (stamp (λ _. c1) 64 n (stamp (λ _. c0) 0 n tr)))
+
+-- the sizes of three coefficients
+pub record Small (c0 c1 c2 : ℤ) : Type 0 where
+  pub first : nat_abs c0 ≤ 10
+  pub second : nat_abs c1 ≤ 23
+  pub third : nat_abs c2 ≤ 46
 
 -- what a reader of the first n places finds there
 pub record TapRows (c0 c1 c2 : ℤ) (n : ℕ) (tr : List ℤ) : Type 0 where
@@ -51,13 +57,6 @@ seven tr k s c st = sum_ℤ 7 (λ j. row_tap tr k j *ℤ get_or s (c + j * st) (
 -- ---- rounding and clip
 unfoldable pub settled : Rounding → ℤ → ℤ
 settled a z = clip3 a.low a.high (shr_z (z +ℤ a.add) (2 ^ a.shift))
-
-pub record Mild (a : Rounding) : Type 0 where
-  pub add_size : nat_abs a.add ≤ 16777216
-  pub shift_size : a.shift ≤ 20
-  pub low_size : mag a.low < 32768
-  pub high_size : mag a.high < 32768
-  pub order : a.low ≤ℤ a.high
 
 -- ---- the middle values
 -- what is added to a middle value where it is kept

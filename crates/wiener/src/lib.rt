@@ -3,9 +3,12 @@
 
 pub mod taps; // taps.rt: the taps of three coefficients, repeated along rows
 pub mod rounds; // rounds.rt: rounding and clip of a pass
+pub mod sums; // sums.rt: the seven-tap sum of either pass, rounded and clipped
 pub mod across; // across.rt: one row of the horizontal pass
 pub mod down; // down.rt: one row of the vertical pass
 pub mod window; // window.rt: both passes over a window
+
+ghost use Rattle.wiener.specs.Mild.{Mild};
 
 // What a pass does to a sum: add, shift right, clip.
 #[derive(Clone, Copy)]
@@ -14,4 +17,5 @@ pub struct Rounding {
     pub shift: u32,
     pub low: i32,
     pub high: i32,
+    pub ghost mild: { Mild add shift low high },
 }

@@ -1,8 +1,7 @@
 // What a pass does to its sum: the bias of the middle values and the rounding in one addition, the shift, the clip.
-ghost use Rattle.std.specs.Prelude.{◌≡◌, cond, ◌-◌, ◌^◌, ◌≤◌, pos, negsuc, nat_abs, ◌+ℤ◌, ◌-ℤ◌, ◌*ℤ◌};
-ghost use Rattle.std.specs.Int.Signed.{lt_z};
+ghost use Rattle.std.specs.Prelude.{◌≡◌, ◌-◌, ◌^◌, ◌≤◌, pos, negsuc, nat_abs, ◌+ℤ◌, ◌-ℤ◌, ◌*ℤ◌};
 ghost use Rattle.standard.specs.Depths as depths;
-ghost use Rattle.wiener.specs.Passes.{settled, Mild, bias};
+ghost use Rattle.wiener.specs.Passes.{settled, bias};
 
 use crate::Rounding;
 use numbers::{largest, limit, offset, r0, r1};
@@ -20,7 +19,7 @@ pub fn across_rounding(d: Depth) -> Rounding
     let full = 1 << r;
     let add = half + off * full;
     Rounding {
-        add: add,
+        add,
         shift: r,
         low: -16384,
         high: top,
@@ -38,40 +37,17 @@ pub fn down_rounding(d: Depth) -> Rounding
     let half = 1 << (r - 1);
     let add = half - off * 128;
     Rounding {
-        add: add,
+        add,
         shift: r,
         low: 0,
         high: top,
     }
 }
 
-fn at_least(low: i32, x: i32) -> i32
-    ensures { result ≡ cond (lt_z x low) low x }
-{
-    if x < low {
-        return low;
-    }
-    x
-}
-
-fn at_most(high: i32, x: i32) -> i32
-    ensures { result ≡ cond (lt_z high x) high x }
-{
-    if high < x {
-        return high;
-    }
-    x
-}
-
-// Rounding and clip of a sum. Either end of the clip is one instruction by itself, where Clip3 would be three.
+// Rounding and clip of a sum. Either end of the clip is one instruction by itself, where `clamp` would be three.
 pub fn settle(z: i32, a: Rounding) -> i32
     requires z_bound { nat_abs z ≤ 16777216 }
-    requires mild { Mild a }
     ensures { result ≡ settled a z }
 {
-    let add = a.add;
-    let shift = a.shift;
-    let low = a.low;
-    let high = a.high;
-    at_least(low, at_most(high, (z + add) >> shift))
+    ((z + a.add) >> a.shift).min(a.high).max(a.low)
 }

@@ -1,9 +1,8 @@
 // The taps of three coefficients, and four rows that repeat them: a tap read in the loop from a row of 16 bits gives the compiler its range.
-ghost use Rattle.std.specs.Prelude.{◌≡◌, [], ◌∷◌, ◌≤◌, pos, nat_abs, ◌*ℤ◌, get_or, length};
+ghost use Rattle.std.specs.Prelude.{◌≡◌, ◌≤◌, pos, nat_abs, ◌*ℤ◌, get_or};
 ghost use Rattle.laws.specs.Bounds.{Sized};
-ghost use Rattle.standard.specs.Wiener.{middle};
 ghost use Rattle.units.specs.Legal.{LegalTaps};
-ghost use Rattle.wiener.specs.Passes.{tap_rows, TapRows};
+ghost use Rattle.wiener.specs.Passes.{tap_rows, TapRows, Small};
 
 use runs::repeat_narrow;
 use standard::Taps;
@@ -16,36 +15,11 @@ pub fn by(x: i16, t: i16) -> i32
     (x as i32) * (t as i32)
 }
 
-// The four taps that differ, of the vertical pass.
-fn vertical(t: Taps) -> [i32; 4]
-    requires { LegalTaps t }
-    ensures { result ≡ t.v0 ∷ t.v1 ∷ t.v2 ∷ middle t.v0 t.v1 t.v2 ∷ [] }
-{
-    let a = t.v0;
-    let b = t.v1;
-    let c = t.v2;
-    let m = 128 - 2 * (a + b + c);
-    [a, b, c, m]
-}
-
-// The four taps that differ, of the horizontal pass.
-fn horizontal(t: Taps) -> [i32; 4]
-    requires { LegalTaps t }
-    ensures { result ≡ t.h0 ∷ t.h1 ∷ t.h2 ∷ middle t.h0 t.h1 t.h2 ∷ [] }
-{
-    let a = t.h0;
-    let b = t.h1;
-    let c = t.h2;
-    let m = 128 - 2 * (a + b + c);
-    [a, b, c, m]
-}
-
 // Each of the four taps w times, 64 places apart.
 fn tap_rows(tr: &mut [i16; 256], c: &[i32; 4], w: usize)
     requires w_bound { w ≤ 64 }
     requires sized { Sized 32767 0 4 c.now }
     ensures tr_after { tr.new ≡ tap_rows (get_or c.now 0 (pos 0)) (get_or c.now 1 (pos 0)) (get_or c.now 2 (pos 0)) (get_or c.now 3 (pos 0)) w tr.old }
-    ensures tr_len { length tr.old ≡ 256 }
 {
     repeat_narrow(tr, 0, c, 0, w);
     repeat_narrow(tr, 64, c, 1, w);
@@ -53,22 +27,38 @@ fn tap_rows(tr: &mut [i16; 256], c: &[i32; 4], w: usize)
     repeat_narrow(tr, 192, c, 3, w);
 }
 
-// The rows of the vertical pass, for w columns.
-pub fn vertical_rows(tr: &mut [i16; 256], t: Taps, w: usize)
+// The rows of a pass by its three coefficients, for w columns: the four taps that differ.
+pub fn rows_of(tr: &mut [i16; 256], c0: i32, c1: i32, c2: i32, w: usize)
     requires w_bound { w ≤ 64 }
-    requires legal_taps { LegalTaps t }
-    ensures { TapRows t.v0 t.v1 t.v2 w tr.new }
+    requires small { Small c0 c1 c2 }
+    ensures { TapRows c0 c1 c2 w tr.new }
 {
-    let c = vertical(t);
-    tap_rows(tr, &c, w);
+    let m = 128 - 2 * (c0 + c1 + c2);
+    tap_rows(tr, &[c0, c1, c2, m], w);
 }
 
-// The rows of the horizontal pass, for w columns.
-pub fn horizontal_rows(tr: &mut [i16; 256], t: Taps, w: usize)
-    requires w_bound { w ≤ 64 }
-    requires legal_taps { LegalTaps t }
-    ensures { TapRows t.h0 t.h1 t.h2 w tr.new }
-{
-    let c = horizontal(t);
-    tap_rows(tr, &c, w);
+// A unit's taps for n columns: the rows of the horizontal pass and those of the vertical pass.
+#[derive(Drop)]
+pub struct Repeated {
+    pub t: Taps,
+    pub n: usize,
+    pub hr: [i16; 256],
+    pub vr: [i16; 256],
+    pub ghost legal: { LegalTaps t },
+    pub ghost few: { n ≤ 64 },
+    pub ghost across: { TapRows t.h0 t.h1 t.h2 n hr },
+    pub ghost down: { TapRows t.v0 t.v1 t.v2 n vr },
+}
+
+impl Repeated {
+    pub fn new(t: Taps, n: usize) -> Self
+        requires { (n ≤ 64) × LegalTaps t }
+        ensures { (result.t ≡ t) × (result.n ≡ n) }
+    {
+        let mut hr = [0i16; 256];
+        let mut vr = [0i16; 256];
+        rows_of(&mut hr, t.h0, t.h1, t.h2, n);
+        rows_of(&mut vr, t.v0, t.v1, t.v2, n);
+        Repeated { t, n, hr, vr }
+    }
 }

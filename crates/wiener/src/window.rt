@@ -5,11 +5,11 @@ ghost use Rattle.laws.specs.Bounds.{Samples};
 ghost use Rattle.standard.specs.Depths.{largest};
 ghost use Rattle.standard.specs.Wiener.{wiener};
 ghost use Rattle.units.specs.Legal.{LegalTaps};
-ghost use Rattle.wiener.specs.Passes.{TapRows, Halves, across_at, down_at, seen};
+ghost use Rattle.wiener.specs.Passes.{Halves, across_at, down_at, seen};
 
 use crate::across::across_row;
 use crate::down::down_row;
-use crate::taps::{horizontal_rows, vertical_rows};
+use crate::taps::Repeated;
 use standard::{Depth, Taps};
 
 // The horizontal pass over the h + 6 rows of a window, `stride` apart, to the first h + 6 rows of w in s.
@@ -20,20 +20,15 @@ pub fn across_window(
     stride: usize,
     w: usize,
     h: usize,
-    tr: &[i16; 256],
-    t: Taps,
+    taps: &Repeated,
     d: Depth,
 )
-    requires w_in_bounds { ((h + 6) * w ≤ length s.old) × (at + (h + 5) * stride + (w + 6) ≤ length win.now) × (w ≤ 64) × (h ≤ 64) }
-    requires legal_taps { LegalTaps t × TapRows t.h0 t.h1 t.h2 w tr.now }
+    requires w_in_bounds { ((h + 6) * w ≤ length s.old) × (at + (h + 5) * stride + (w + 6) ≤ length win.now) × (w ≤ taps.now.n) × (h ≤ 64) }
     requires samples { Samples (largest d) at (at + (h + 5) * stride + (w + 6)) win.now }
-    ensures { s.new ≡ rows (λ i x. across_at d t win.now (at + i * stride + x)) 0 w w (h + 6) s.old }
+    ensures { s.new ≡ rows (λ i x. across_at d taps.now.t win.now (at + i * stride + x)) 0 w w (h + 6) s.old }
 {
-    let n = h + 6;
-    let mut i = 0;
-    while i < n {
-        across_row(s, i * w, win, at + i * stride, w, tr, t, d);
-        i += 1;
+    for i in 0..h + 6 {
+        across_row(s, i * w, win, at + i * stride, w, taps, d);
     }
 }
 
@@ -45,19 +40,15 @@ pub fn down_window(
     s: &[i16],
     w: usize,
     h: usize,
-    tr: &[i16; 256],
-    t: Taps,
+    taps: &Repeated,
     d: Depth,
 )
-    requires w_in_bounds { (to + h * stride + w ≤ length out.old + stride) × ((h + 6) * w ≤ length s.now) × (w ≤ 64) × (h ≤ 64) }
-    requires legal_taps { LegalTaps t × TapRows t.v0 t.v1 t.v2 w tr.now }
+    requires w_in_bounds { (to + h * stride + w ≤ length out.old + stride) × ((h + 6) * w ≤ length s.now) × (w ≤ taps.now.n) × (h ≤ 64) }
     requires halves { Halves 0 ((h + 6) * w) s.now }
-    ensures { out.new ≡ rows (λ i x. down_at d t s.now (i * w + x) w) to stride w h out.old }
+    ensures { out.new ≡ rows (λ i x. down_at d taps.now.t s.now (i * w + x) w) to stride w h out.old }
 {
-    let mut i = 0;
-    while i < h {
-        down_row(out, to + i * stride, s, i * w, w, tr, t, d);
-        i += 1;
+    for i in 0..h {
+        down_row(out, to + i * stride, s, i * w, w, taps, d);
     }
 }
 
@@ -80,9 +71,7 @@ pub fn wiener_window(
     requires samples { Samples (largest d) at (at + (h + 5) * stride + (w + 6)) win.now }
     ensures { out.new ≡ rows (λ i j. pos (wiener d t (seen win.now at stride i j))) to out_stride w h out.old }
 {
-    let mut tr = [0i16; 256];
-    horizontal_rows(&mut tr, t, w);
-    across_window(s, win, at, stride, w, h, &tr, t, d);
-    vertical_rows(&mut tr, t, w);
-    down_window(out, to, out_stride, s, w, h, &tr, t, d);
+    let taps = Repeated::new(t, w);
+    across_window(s, win, at, stride, w, h, &taps, d);
+    down_window(out, to, out_stride, s, w, h, &taps, d);
 }

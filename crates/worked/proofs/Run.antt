@@ -17,7 +17,8 @@ use Rattle.laws.specs.Lists.{listing, length_listing, all, all_at}
 use Rattle.laws.specs.Runs.{stamp, stamp_none, stamp_more, stamp_length, stamp_at, stamp_after}
 use Rattle.laws.specs.Tests.{and_l, and_r, and_both, not_no, is_true, or_no}
 use Rattle.standard.specs.declared.Frame.{Frame}
-use Rattle.standard.specs.declared.Stored.{Stored}
+use Rattle.std.specs.Prelude.{Result}
+use Rattle.standard.specs.declared.Refusal.{Refusal}
 use Rattle.standard.specs.Depths.{depth_of, largest}
 use Rattle.standard.specs.Arithmetic.{round_ℕ}
 use Rattle.standard.specs.Units.{between}
@@ -80,7 +81,7 @@ pub stripes_none : (f : Frame) (table E : List ℤ) (k m : ℕ) (st : Lent) → 
 unfolding stripes_run run listing
 stripes_none f table E k m st = refl
 
-pub stripes_more : (f : Frame) (table E : List ℤ) (k₀ m₀ k m s : ℕ) (st mid after : Lent) (r : Stored) → mid ≡ stripes_run f table E k₀ m₀ s st → k ≡ k₀ → m ≡ m₀ →
+pub stripes_more : (f : Frame) (table E : List ℤ) (k₀ m₀ k m s : ℕ) (st mid after : Lent) (r : Result (Unit {0}) Refusal) → mid ≡ stripes_run f table E k₀ m₀ s st → k ≡ k₀ → m ≡ m₀ →
     Promised (call_of f s table E k m) mid r after → after ≡ stripes_run f table E k₀ m₀ (s + 1) st
 unfolding stripes_run
 stripes_more f table E k₀ m₀ k m s st mid after r e ek em p =

@@ -13,7 +13,8 @@ use lib.Seq.{get_or-append-add, get_or-drop}
 use lib.Signed.{◌≤ℤ◌, le_z_yes}
 use Rattle.laws.specs.Index.{lt_or_le, mul_small}
 use Rattle.laws.specs.Tests.{and_r, is_true, is_false, or_no}
-use Rattle.standard.specs.declared.JobRan.{JobRan}
+use Rattle.std.specs.Prelude.{Result, Ok}
+use Rattle.standard.specs.declared.JobRefusal.{JobRefusal}
 use Rattle.standard.specs.declared.Report.{Report}
 use Rattle.standard.specs.Answers.{of_job_ran, no_report}
 use Rattle.standard.specs.Stripes.{stripes}
@@ -105,7 +106,7 @@ shown : (n : ℕ) (r t : Report) → (0, r) ≡ by_number n t → (n ≡ 0) × (
 shown zero r t q = (refl, ap (λ p. p.1) q)
 shown (suc n) r t q = absurd (omega (arith, ap (λ p. p.0) q))
 
-module _ (b : List ℕ) (r : Report) (q : of_job_ran (JobRan.Done r) ≡ run_answer b) where
+module _ (b : List ℕ) (r : Report) (q : of_job_ran (Ok r) ≡ run_answer b) where
   found : (job_number b ≡ 0) × (r ≡ job_report (job_of b))
   unfolding run_answer
   found = shown (job_number b) r (job_report (job_of b)) q
@@ -156,5 +157,5 @@ printed_long b room l = go (eqb (job_number b) 0) (eqb→eq (job_number b) 0)
     go false z = l
 
 -- no second answer
-pub run_once : (b : List ℕ) (r s : JobRan) → of_job_ran r ≡ run_answer b → of_job_ran s ≡ run_answer b → r ≡ s
+pub run_once : (b : List ℕ) (r s : Result Report JobRefusal) → of_job_ran r ≡ run_answer b → of_job_ran s ≡ run_answer b → r ≡ s
 run_once b r s p q = job_ran_once r s (p ∙ sym q)

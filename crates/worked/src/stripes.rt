@@ -26,10 +26,8 @@ fn each_stripe(
 )
     ensures { plane.new ≡ (stripes_run f table.now edges.now (length scratch.old) (length copy.old) n (lent plane.old marks.old)).plane }
 {
-    let mut s: u32 = 0;
-    while s < n {
-        restore_stripe(f, s, table, edges, plane, marks, scratch, copy);
-        s += 1;
+    for s in 0..n {
+        let _ = restore_stripe(f, s, table, edges, plane, marks, scratch, copy);
     }
 }
 
@@ -47,7 +45,7 @@ fn captured_run(
     requires { (first (capture_tests f deblocked.now (length edges.old)) ≡ 0) × (length marks.old ≤ 65535) }
     ensures { plane.new ≡ (stripes_run f table.now (captured_slice (sub_y_of f) (plane_height f) (plane_width f) deblocked.now) (length scratch.old) (length copy.old) (length marks.old) (lent plane.old marks.old)).plane }
 {
-    capture_edges(f, deblocked, edges);
+    let _ = capture_edges(f, deblocked, edges);
     let n = marks.len() as u32;
     each_stripe(f, table, edges, plane, marks, scratch, copy, n);
 }

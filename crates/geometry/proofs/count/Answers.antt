@@ -1,15 +1,13 @@
 -- Where a test gives its number, that number; else the counts.
 use mathlib.Core.Path.{sym, ◌∙◌, ap}
+use Rattle.std.proofs.lemmas.Result.{err_from_is_err_and}
+use Rattle.standard.proofs.Answers.{refused}
+use Rattle.standard.specs.Calls.{counts_of}
 use Rattle.geometry.proofs.Tests.{count_done, count_refused}
-use Rattle.standard.specs.Answers.{of_stored}
-use Rattle.standard.proofs.Answers.{refusal_back}
 use Rattle.geometry.proofs.count.Goals as goal
 
-pub counts-requires : goal.counts-requires
-counts-requires c = sym c.tested-t.ensures ∙ ap of_stored c.in-Done.is
+pub returns-in_err-d : goal.returns-in_err-d
+returns-in_err-d c = let p = err_from_is_err_and c.from_residual.result c.from_residual.ensures.1 in rw (p.1, p.2) (count_refused _ _ (refused _) c.in_err-d.ensures.number)
 
-pub returns-in-Refused : goal.returns-in-Refused
-returns-in-Refused c = count_refused _ _ (refusal_back _).1 (sym (ap of_stored c.in-Refused.is) ∙ c.tested-t.ensures)
-
-pub returns-in-Done : goal.returns-in-Done
-returns-in-Done c = let s = c.tested-t.ensures in count_done _ _ (sym s ∙ ap of_stored c.in-Done.is) c.counts.ensures
+pub returns : goal.returns
+returns c = count_done _ _ (sym c.in_ok-d.ensures.number) (c.counts.ensures ∙ ap counts_of c.in_ok-d.ensures.passed)

@@ -1,12 +1,8 @@
 -- Where a test of the frame gives its number, that number; else what is left.
-use mathlib.Core.Path.{sym, ◌∙◌, ap}
+use Rattle.std.proofs.lemmas.Result.{err_from_is_err_and}
+use Rattle.standard.proofs.Answers.{refused}
 use Rattle.geometry.proofs.Tests.{rectangle_refused}
-use Rattle.standard.specs.Answers.{of_stored}
-use Rattle.standard.proofs.Answers.{refusal_back}
 use Rattle.geometry.proofs.rectangle.Goals as goal
 
-pub indexed-requires : goal.indexed-requires
-indexed-requires c = sym c.tested-t.ensures ∙ ap of_stored c.in-Done.is
-
-pub returns-in-Refused : goal.returns-in-Refused
-returns-in-Refused c = rectangle_refused _ _ _ (refusal_back _).1 (sym (ap of_stored c.in-Refused.is) ∙ c.tested-t.ensures)
+pub returns-in_err-d : goal.returns-in_err-d
+returns-in_err-d c = let p = err_from_is_err_and c.from_residual.result c.from_residual.ensures.1 in rw (p.1, p.2) (rectangle_refused _ _ _ (refused _) c.in_err-d.ensures.number)

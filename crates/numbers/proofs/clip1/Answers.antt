@@ -1,25 +1,16 @@
--- Clip1: each return is an arm of `clip_to`, on what the branches say of the numbers read.
-use mathlib.Core.Path.{◌≡◌, refl, sym, ◌∙◌, ap}
+-- Clip1 is the clamp of the number to 0 .. top.
+use mathlib.Core.Path.{sym, ◌∙◌}
 use lib.IntN.{pos, nat_abs}
 use lib.Signed.{yes_non_neg, pos-nat_abs}
 use mir.Facts.{to_z-of_z}
-use Rattle.laws.specs.ReadBack.{lt_yes, lt_no}
-use Rattle.standard.proofs.Arms.{clip_neg, clip_high, clip_mid}
-use Rattle.numbers.proofs.clip1.Lts as lts
-use Rattle.numbers.proofs.clip1.Reads as reads
+use mir.Syntax.{w32}
+use Rattle.laws.specs.Congruence.{ap2}
+use Rattle.laws.specs.ReadBack.{returned}
+use Rattle.std.specs.Int.{int_max, int_min}
+use Rattle.numbers.proofs.Clip.{clamped}
 use Rattle.numbers.proofs.clip1.Goals as goal
 
-top_is : (s : lts.Start reads.Pre reads.Post) → pos (nat_abs s.args.top) ≡ s.args.top
-top_is s = pos-nat_abs s.args.top (yes_non_neg s.requires)
-
-pub returns-then-x-lt0 : goal.returns-then-x-lt0
-returns-then-x-lt0 c = sym (ap pos (clip_neg _ (lt_yes (to_z-of_z c.ranges.x) refl c.if-x-lt0.true)))
-
-pub returns-then-top-x : goal.returns-then-top-x
-returns-then-top-x c = let s = c.before.before in
-    to_z-of_z s.ranges.top ∙ sym (top_is s) ∙ sym (ap pos (clip_high _ (lt_yes (to_z-of_z s.ranges.top ∙ sym (top_is s)) (to_z-of_z s.ranges.x) c.if-top-x.true)))
-
 pub returns : goal.returns
-returns c = let s = c.before.before in
-    let low = lt_no (to_z-of_z s.ranges.x) refl c.if-x-lt0.false in
-    to_z-of_z s.ranges.x ∙ sym (pos-nat_abs s.args.x (yes_non_neg low)) ∙ sym (ap pos (clip_mid _ low (lt_no (to_z-of_z s.ranges.top ∙ sym (top_is s)) (to_z-of_z s.ranges.x) c.if-top-x.false)))
+returns c =
+    let top = to_z-of_z c.ranges.top ∙ sym (pos-nat_abs c.args.top (yes_non_neg c.requires)) in
+    returned w32 c.clamp.type_inv c.clamp.ensures.value ∙ ap2 (λ x t. int_max (pos 0) (int_min x t)) (to_z-of_z c.ranges.x) top ∙ clamped c.args.x (nat_abs c.args.top)

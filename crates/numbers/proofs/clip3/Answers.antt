@@ -12,6 +12,6 @@ pub returns-then-hi-x : goal.returns-then-hi-x
 returns-then-hi-x c = let f = c.ranges in
     to_z-of_z f.hi ∙ sym (clip3_above (lt_no (to_z-of_z f.x) (to_z-of_z f.lo) c.if-x-lo.false) (lt_yes (to_z-of_z f.hi) (to_z-of_z f.x) c.if-hi-x.true))
 
-pub returns : goal.returns
-returns c = let f = c.ranges in
+pub returns-else-hi-x : goal.returns-else-hi-x
+returns-else-hi-x c = let f = c.ranges in
     to_z-of_z f.x ∙ sym (clip3_inside (lt_no (to_z-of_z f.x) (to_z-of_z f.lo) c.if-x-lo.false) (lt_no (to_z-of_z f.hi) (to_z-of_z f.x) c.if-hi-x.false))

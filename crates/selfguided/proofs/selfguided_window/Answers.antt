@@ -6,17 +6,20 @@ pub params_of-p-requires : goal.params_of-p-requires
 params_of-p-requires c = c.requires.samples.2.set_high
 
 pub first_pass-requires : goal.first_pass-requires
-first_pass-requires c = ((window_of c.args.d c.args.w c.args.h c.args.odd c.requires.le_w.1 c.requires.le_w.3 c.requires.le_w.4 c.requires.le_w.5 c.requires.samples.0), eps_first c.params_of-p.ensures, c.requires.samples.3)
+first_pass-requires c = (window_of c.requires.le_w c.requires.samples.0, eps_first c.params_of-p.ensures)
 
 pub second_pass-requires : goal.second_pass-requires
-second_pass-requires c = let s = c in (between _ _ s.args.w s.args.h s.args.odd s.args.d _ _ (window_of c.args.d c.args.w c.args.h c.args.odd c.requires.le_w.1 c.requires.le_w.3 c.requires.le_w.4 c.requires.le_w.5 c.requires.samples.0) c.first_pass.ensures, eps_second c.params_of-p.ensures, s.requires.samples.3)
+second_pass-requires c = (between (window_of c.requires.le_w c.requires.samples.0) c.first_pass.ensures, eps_second c.params_of-p.ensures)
 
 pub mix_of-m-requires : goal.mix_of-m-requires
 mix_of-m-requires c = c.requires.samples.2
 
 pub last-requires : goal.last-requires
-last-requires c = let s = c in let m = c.mix_of-m.ensures in
-    (s.requires.samples.1, ready_at c.args.d c.args.w c.args.h c.args.odd c.args.weights c.params_of-p.result c.params_of-p.ensures _ _ _ (window_of c.args.d c.args.w c.args.h c.args.odd c.requires.le_w.1 c.requires.le_w.3 c.requires.le_w.4 c.requires.le_w.5 c.requires.samples.0) c.first_pass.ensures c.second_pass.ensures _ m.0, record { set_high = s.requires.samples.2.set_high; params = c.params_of-p.ensures; mixed = m.3; w0_is = m.1; w1_is = m.2 })
+last-requires c = let m = c.mix_of-m.ensures in (
+  c.requires.samples.1,
+  ready_at c.args.weights c.params_of-p.ensures (window_of c.requires.le_w c.requires.samples.0) c.first_pass.ensures c.second_pass.ensures m.0,
+  record { set_high = c.requires.samples.2.set_high; params = c.params_of-p.ensures; w0_is = m.1; w1_is = m.2 },
+)
 
 pub returns : goal.returns
-returns c = results c.args.d c.args.w c.args.h c.args.odd c.args.weights c.params_of-p.result c.params_of-p.ensures _ _ _ (window_of c.args.d c.args.w c.args.h c.args.odd c.requires.le_w.1 c.requires.le_w.3 c.requires.le_w.4 c.requires.le_w.5 c.requires.samples.0) c.first_pass.ensures c.second_pass.ensures _ c.mix_of-m.ensures.0 _ _ _ _ c.last.ensures
+returns c = results c.args.weights c.params_of-p.ensures (window_of c.requires.le_w c.requires.samples.0) c.first_pass.ensures c.second_pass.ensures c.mix_of-m.ensures.0 _ _ _ c.last.ensures

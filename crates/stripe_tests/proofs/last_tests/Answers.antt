@@ -10,9 +10,6 @@ pub returns-then-bad_rows : goal.returns-then-bad_rows
 unfolding refusal_number
 returns-then-bad_rows c = here _ _ _ (told c.bad_rows.ensures c.if-bad_rows.true)
 
-pub typed_rooms-requires : goal.typed_rooms-requires
-typed_rooms-requires c = c.requires.0
-
 pub returns-then-typed_rooms : goal.returns-then-typed_rooms
 unfolding refusal_number
 returns-then-typed_rooms c = let k = c in past _ _ _ _ (told k.bad_rows.ensures k.if-bad_rows.false) (here _ _ _ (told c.typed_rooms.ensures c.if-typed_rooms.true))

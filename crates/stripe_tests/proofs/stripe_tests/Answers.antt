@@ -1,7 +1,12 @@
 -- Each return is the number of the first test that holds.
-use mathlib.Core.Path.{sym, ◌∙◌}
+use mathlib.Core.Path.{◌∙◌, ap}
+use Rattle.std.proofs.lemmas.Result.{err_from_is_err_and}
+use Rattle.standard.proofs.Answers.{refused}
 use Rattle.standard.specs.Answers.{refusal_number}
-use Rattle.stripe_tests.proofs.Laws.{here, or_left, or_right, past, told}
+use Rattle.standard.specs.Refusals.{first}
+use Rattle.frames.proofs.Legal.{given_between}
+use Rattle.stripe_tests.specs.Parts.{slice_tests}
+use Rattle.stripe_tests.proofs.Laws.{here, past, past_plane, told}
 use Rattle.stripe_tests.proofs.stripe_tests.Goals as goal
 
 pub returns-then-bad_depth : goal.returns-then-bad_depth
@@ -10,26 +15,26 @@ returns-then-bad_depth c = here _ _ _ (told c.bad_depth.ensures c.if-bad_depth.t
 
 pub returns-then-bad_plane : goal.returns-then-bad_plane
 unfolding refusal_number
-returns-then-bad_plane c = let k1 = c in past _ _ _ _ (told k1.bad_depth.ensures k1.if-bad_depth.false) (here _ _ _ (told c.bad_plane.ensures c.if-bad_plane.true))
+returns-then-bad_plane c = past _ _ _ _ (told c.bad_depth.ensures c.if-bad_depth.false) (here _ _ _ (told c.bad_plane.ensures c.if-bad_plane.true))
 
 pub returns-then-bad_frame_type : goal.returns-then-bad_frame_type
 unfolding refusal_number
-returns-then-bad_frame_type c = let k2 = c in let k1 = k2 in past _ _ _ _ (told k1.bad_depth.ensures k1.if-bad_depth.false) (past _ _ _ _ (told k2.bad_plane.ensures k2.if-bad_plane.false) (here _ _ _ (told c.bad_frame_type.ensures c.if-bad_frame_type.true)))
+returns-then-bad_frame_type c = past _ _ _ _ (told c.bad_depth.ensures c.if-bad_depth.false) (past _ _ _ _ (told c.bad_plane.ensures c.if-bad_plane.false) (here _ _ _ (told c.bad_frame_type.ensures c.if-bad_frame_type.true)))
 
-pub returns-then-bad_side : goal.returns-then-bad_side
-unfolding refusal_number
-returns-then-bad_side c = let k3 = c in let k2 = k3 in let k1 = k2 in past _ _ _ _ (told k1.bad_depth.ensures k1.if-bad_depth.false) (past _ _ _ _ (told k2.bad_plane.ensures k2.if-bad_plane.false) (past _ _ _ _ (told k3.bad_frame_type.ensures k3.if-bad_frame_type.false) (here _ _ _ (sym (or_left _ _ (told c.bad_side.ensures c.if-bad_side.true))))))
-
-pub returns-then-bad_side-2 : goal.returns-then-bad_side-2
-unfolding refusal_number
-returns-then-bad_side-2 c = let k4 = c in let k3 = k4 in let k2 = k3 in let k1 = k2 in past _ _ _ _ (told k1.bad_depth.ensures k1.if-bad_depth.false) (past _ _ _ _ (told k2.bad_plane.ensures k2.if-bad_plane.false) (past _ _ _ _ (told k3.bad_frame_type.ensures k3.if-bad_frame_type.false) (here _ _ _ (sym (or_right _ _ (told k4.bad_side.ensures k4.if-bad_side.false)) ∙ told c.bad_side-2.ensures c.if-bad_side-2.true))))
+pub returns-in_err-p : goal.returns-in_err-p
+returns-in_err-p c =
+    let p = err_from_is_err_and c.from_residual.result c.from_residual.ensures.1 in
+    rw (p.1, p.2) (past _ _ _ _ (told c.bad_depth.ensures c.if-bad_depth.false) (given_between c.args.f _ _ _ (told c.bad_frame_type.ensures c.if-bad_frame_type.false) (refused _) c.in_err-p.ensures.number))
 
 pub returns-then-typed_size : goal.returns-then-typed_size
 unfolding refusal_number
-returns-then-typed_size c = let k5 = c in let k4 = k5 in let k3 = k4 in let k2 = k3 in let k1 = k2 in past _ _ _ _ (told k1.bad_depth.ensures k1.if-bad_depth.false) (past _ _ _ _ (told k2.bad_plane.ensures k2.if-bad_plane.false) (past _ _ _ _ (told k3.bad_frame_type.ensures k3.if-bad_frame_type.false) (past _ _ _ _ (sym (or_right _ _ (told k4.bad_side.ensures k4.if-bad_side.false)) ∙ told k5.bad_side-2.ensures k5.if-bad_side-2.false) (here _ _ _ (told c.typed_size.ensures c.if-typed_size.true)))))
-
-pub slice_tests-requires : goal.slice_tests-requires
-slice_tests-requires c = let k6 = c in let k5 = k6 in let k4 = k5 in let k3 = k4 in let k2 = k3 in let k1 = k2 in (record { depth = told k1.bad_depth.ensures k1.if-bad_depth.false; plane = told k2.bad_plane.ensures k2.if-bad_plane.false; high = told k4.bad_side.ensures k4.if-bad_side.false; wide = told k5.bad_side-2.ensures k5.if-bad_side-2.false }, told k6.typed_size.ensures k6.if-typed_size.false)
+returns-then-typed_size c =
+    past _ _ _ _ (told c.bad_depth.ensures c.if-bad_depth.false)
+    (past_plane c.in_ok-p.p c.args.f c.in_ok-p.ensures.passed _ _ _ (told c.bad_frame_type.ensures c.if-bad_frame_type.false) (here _ _ _ (told c.typed_size.ensures c.if-typed_size.true)))
 
 pub returns : goal.returns
-returns c = let k6 = c in let k5 = k6 in let k4 = k5 in let k3 = k4 in let k2 = k3 in let k1 = k2 in past _ _ _ _ (told k1.bad_depth.ensures k1.if-bad_depth.false) (past _ _ _ _ (told k2.bad_plane.ensures k2.if-bad_plane.false) (past _ _ _ _ (told k3.bad_frame_type.ensures k3.if-bad_frame_type.false) (past _ _ _ _ (sym (or_right _ _ (told k4.bad_side.ensures k4.if-bad_side.false)) ∙ told k5.bad_side-2.ensures k5.if-bad_side-2.false) (past _ _ _ _ (told k6.typed_size.ensures k6.if-typed_size.false) c.slice_tests.ensures))))
+returns c =
+    let a = c.args in
+    past _ _ _ _ (told c.bad_depth.ensures c.if-bad_depth.false)
+    (past_plane c.in_ok-p.p a.f c.in_ok-p.ensures.passed _ _ _ (told c.bad_frame_type.ensures c.if-bad_frame_type.false)
+    (past _ _ _ _ (told c.typed_size.ensures c.if-typed_size.false) (c.slice_tests.ensures ∙ ap (λ g. first (slice_tests g a.s a.edges.now a.plane.now a.scratch a.copy a.table.now a.marks.now)) c.in_ok-p.ensures.passed)))

@@ -1,18 +1,18 @@
--- The number is that of the tests; the slice is written where it is 0, and only there.
-use mathlib.Core.Path.{sym, ◌∙◌, ap}
-use borrow.Author.Tests.{eqb-true}
-use lib.Dec.{eqb}
+-- Where a test gives its number the slice is as it was; else it is written.
+use mathlib.Core.Path.{sym, ◌∙◌}
+use native.Mathlib.Omega.{arith}
+use borrow.Author.Tests.{eq-eqb, ne_eqb}
 use Rattle.laws.specs.Tests.{cond_true, cond_false}
+use lib.ListN.{length}
 use Rattle.standard.specs.Calls.{upscale_out}
+use Rattle.standard.specs.Refusals.{first, upscale_tests}
+use Rattle.standard.proofs.Answers.{refused}
 use Rattle.superres.proofs.upscale_plane.Goals as goal
 
-pub write-requires : goal.write-requires
-write-requires c = sym c.tested-answer.ensures ∙ eqb-true _ 0 (sym c.is_done.ensures ∙ c.if-is_done.true)
-
-pub returns-then-is_done : goal.returns-then-is_done
+pub returns-in_err-tested-clause-output_after : goal.returns-in_err-tested-clause-output_after
 unfolding upscale_out
-returns-then-is_done c = let t = c.tested-answer.ensures in record { result_value = t; output_after = c.write.ensures ∙ sym (cond_true _ _ _ (ap (λ n. eqb n 0) (sym t) ∙ sym c.is_done.ensures ∙ c.if-is_done.true)) }
+returns-in_err-tested-clause-output_after c = sym (cond_false _ _ _ (ne_eqb (first (upscale_tests c.args.s c.args.input.now (length c.args.output.now))) 0 (λ e. omega (arith, refused c.in_err-tested.field-0.0, c.in_err-tested.ensures))))
 
-pub returns-else-is_done : goal.returns-else-is_done
+pub returns-clause-output_after : goal.returns-clause-output_after
 unfolding upscale_out
-returns-else-is_done c = let t = c.tested-answer.ensures in record { result_value = t; output_after = sym (cond_false _ _ _ (ap (λ n. eqb n 0) (sym t) ∙ sym c.is_done.ensures ∙ c.if-is_done.false)) }
+returns-clause-output_after c = c.write.ensures ∙ sym (cond_true _ _ _ (eq-eqb _ 0 (sym c.in_ok-tested.ensures)))

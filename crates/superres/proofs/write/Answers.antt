@@ -1,29 +1,23 @@
 -- A copy, or the plane of the plan: what no test refuses is what each step asks.
-use mathlib.Core.Path.{refl, sym, ◌∙◌}
-use native.Mathlib.Omega.{arith}
-use lib.ListN.{length}
-use Rattle.superres.proofs.Clean.{Clean, clean, copied_long, wider, some_cols}
+use mathlib.Core.Path.{sym, ◌∙◌}
+use Rattle.superres.proofs.Clean.{clean, copied_long, wider, some_cols}
 use Rattle.superres.proofs.Planes.{copied, plan_fits, plan_out, plan_written}
-use borrow.Author.Rules.{rules}
 use Rattle.superres.proofs.write.Goals as goal
 
-known : (s : goal.Start) → Clean s.args.s s.args.input.now (length s.args.output.now)
-known s = clean _ _ _ s.requires
-
-pub copy_run-requires : goal.copy_run-requires
-copy_run-requires c = let e = copied_long (known c.before.before.before) (sym c.is_copy.ensures ∙ c.if-is_copy.true) in (omega (arith, e), omega arith)
+pub copy_from_slice-requires : goal.copy_from_slice-requires
+copy_from_slice-requires c = sym (copied_long (clean _ _ _ c.requires) (sym c.if-is_copy.ensures))
 
 pub returns-then-is_copy : goal.returns-then-is_copy
-returns-then-is_copy c = copied (known c.before.before.before.before.before) (sym c.is_copy.ensures ∙ c.if-is_copy.true) _ _ refl c.copy_run.ensures
+returns-then-is_copy c = c.copy_from_slice.ensures.after ∙ copied (clean _ _ _ c.requires) (sym c.if-is_copy.ensures)
 
 pub plan_of-p-requires : goal.plan_of-p-requires
-plan_of-p-requires c = let e = sym c.is_copy.ensures ∙ c.if-is_copy.false in let k = known c.before.before in (k.sides, some_cols k e, wider k e)
+plan_of-p-requires c = let k = clean _ _ _ c.requires in let e = sym c.if-is_copy.ensures in (k.sides, some_cols k e, wider k e)
+
+pub invariant_of-scale : goal.invariant_of-scale
+invariant_of-scale c = record { fit = plan_fits (clean _ _ _ c.requires) (sym c.if-is_copy.ensures) c.plan_of-p.ensures }
 
 pub scale-requires : goal.scale-requires
-scale-requires c = let e = sym c.is_copy.ensures ∙ c.if-is_copy.false in let k = known c.before.before.before.before in record { out_len = plan_out k e c.plan_of-p.ensures; fit = plan_fits k e c.plan_of-p.ensures }
+scale-requires c = record { out_len = plan_out (clean _ _ _ c.requires) (sym c.if-is_copy.ensures) c.plan_of-p.ensures }
 
 pub returns : goal.returns
-returns c = c.scale.ensures ∙ plan_written (known c.before.before.before.before.before.before) (sym c.is_copy.ensures ∙ c.if-is_copy.false) c.plan_of-p.ensures
-
-pub is_copy-requires : goal.is_copy-requires
-is_copy-requires c = search rules
+returns c = c.scale.ensures ∙ plan_written (clean _ _ _ c.requires) (sym c.if-is_copy.ensures) c.plan_of-p.ensures

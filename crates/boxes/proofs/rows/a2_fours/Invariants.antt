@@ -1,5 +1,5 @@
 -- The run so far is the stamp of 4 j values of a2; four more are one more run, read where nothing was written.
-use Prim.Native.Nat.{◌+◌, ◌*◌, ◌-◌, ◌≤◌}
+use Prim.Native.Nat.{◌+◌, ◌*◌}
 use mathlib.Core.Path.{◌≡◌}
 use lib.IntN.{pos}
 use Rattle.laws.specs.Runs.{stamp}
@@ -8,7 +8,4 @@ use Rattle.boxes.specs.Reads.{sample_at}
 use Rattle.boxes.proofs.rows.a2_fours.Given as goal
 
 abbrev pub invariant-loop-j : goal.invariant-loop-j
-invariant-loop-j l = (l.j ≤ l.m) × (l.s ≡ stamp (λ k. pos (a2_of (sample_at l.initial.s (l.from + k)))) l.to (4 * l.j) l.initial.s)
-
-abbrev pub decreases-loop-j : goal.decreases-loop-j
-decreases-loop-j l = l.m - l.j
+invariant-loop-j l = l.s ≡ stamp (λ k. pos (a2_of (sample_at l.initial.s (l.from + k)))) l.to (4 * l.j) l.initial.s

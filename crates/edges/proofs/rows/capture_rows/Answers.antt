@@ -27,10 +27,10 @@ module _ (c : goal.In-loop-k) where
   k = c.loop-k.k
 
   room : k * start.args.w + start.args.w ≤ length start.args.edges.now
-  room = omega (arith, row_le {y = k} {h = 4 * (defined.stripes start.args.sub_y start.args.h - 1)} start.args.w (omega (arith, c.loop-k.invariant.1)), rows_room start.args.w (defined.stripes start.args.sub_y start.args.h), start.requires.deblocked_len.1)
+  room = omega (arith, row_le {y = k} {h = 4 * (defined.stripes start.args.sub_y start.args.h - 1)} start.args.w (omega (arith, c.before.stripes.ensures)), rows_room start.args.w (defined.stripes start.args.sub_y start.args.h), start.requires.deblocked_len.1)
 
   as_long : length c.loop-k.edges ≡ length start.args.edges.now
-  as_long = ap length c.loop-k.invariant.2 ∙ rows_length _ _ _ _ _ _
+  as_long = ap length c.loop-k.invariant ∙ rows_length _ _ _ _ _ _
 
 row : (c : lts.After-edge_row tie.the-claims reads.Pre reads.Post goal.the-invariant-loop-k goal.the-decreases-loop-k tie.handed_clauses) → c.edge_row-y.result * (start c.before).args.w + (start c.before).args.w ≤ length (start c.before).args.deblocked.now
 row c = let s = start c.before in omega (arith, row_le {y = c.edge_row-y.result} {h = s.args.h} s.args.w (omega (arith, c.edge_row-y.ensures, edge_in s.args.sub_y s.args.h (k c.before / 4 + 1) (k c.before % 4) s.requires.sub_y_bound.1)), s.requires.deblocked_len.0)
@@ -45,7 +45,7 @@ pub overflow_mul-n : goal.overflow_mul-n
 overflow_mul-n c = omega (arith, few c)
 
 pub loop-k-init : goal.loop-k-init
-loop-k-init c = (omega arith, ap (λ (n : ℕ). 4 * (n - 1)) c.stripes.ensures, rows_none _ _ _ _ _)
+loop-k-init c = rows_none _ _ _ _ _
 
 pub overflow_add-k : goal.overflow_add-k
 overflow_add-k c = omega (arith, few c.before.before)
@@ -62,24 +62,18 @@ overflow_mul-y c = omega (arith, row c.before)
 pub copy_run-requires : goal.copy_run-requires
 copy_run-requires c = (omega (arith, room c.before.before, as_long c.before.before), omega (arith, row c.before))
 
-pub overflow_add-k-in-loop-k : goal.overflow_add-k-in-loop-k
-overflow_add-k-in-loop-k c = omega (arith, few c.before.before.before.before.before.before)
-
 pub loop-k-preserved : goal.loop-k-preserved
 loop-k-preserved c = let i = c.before.before.before.before in
-    let a = (start i).args in (
-      omega arith,
-      i.loop-k.invariant.1,
-      rows_more _ _ _ _ _ _ _ _ _ _ c.copy_run.ensures i.loop-k.invariant.2 (omega arith)
-          (λ x h. ap (λ (y : ℕ). get_or a.deblocked.now (y * a.w + x) (pos 0)) c.edge_row-y.ensures),
-    )
+    let a = (start i).args in
+    rows_more _ _ _ _ _ _ _ _ _ _ c.copy_run.ensures i.loop-k.invariant (omega arith)
+    (λ x h. ap (λ (y : ℕ). get_or a.deblocked.now (y * a.w + x) (pos 0)) c.edge_row-y.ensures)
 
 pub shape_of-edges : goal.shape_of-edges
-shape_of-edges c = ap length c.loop-k.invariant.2 ∙ rows_length _ _ _ _ _ _
+shape_of-edges c = ap length c.loop-k.invariant ∙ rows_length _ _ _ _ _ _
 
 pub returns : goal.returns
 returns c = let l = c.loop-k in
     let s = c in
     let a = s.args in
     captured_is a.sub_y a.h a.w a.deblocked.now a.edges.now _ s.requires.deblocked_len.1
-    (l.invariant.2 ∙ ap (λ (n : ℕ). rows (λ k x. get_or a.deblocked.now (edge_row a.sub_y a.h (k / 4 + 1) (k % 4) * a.w + x) (pos 0)) 0 a.w a.w n a.edges.now) (omega (arith, l.invariant.1)))
+    (l.invariant ∙ ap (λ (n : ℕ). rows (λ k x. get_or a.deblocked.now (edge_row a.sub_y a.h (k / 4 + 1) (k % 4) * a.w + x) (pos 0)) 0 a.w a.w n a.edges.now) (omega (arith, c.stripes.ensures)))

@@ -12,4 +12,4 @@ overflow_sub-b c = let s = c in omega (arith, c.stripe_start-b.ensures, start_la
 
 pub returns : goal.returns
 unfolding edge_row
-returns c = let a = c.args in c.least.ensures ∙ ap (λ (b : ℕ). min (b + a.k - 2) (a.h - 1)) c.stripe_start-b.ensures
+returns c = let a = c.args in c.min.ensures ∙ ap (λ (b : ℕ). min (b + a.k - 2) (a.h - 1)) c.stripe_start-b.ensures

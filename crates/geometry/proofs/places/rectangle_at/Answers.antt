@@ -48,7 +48,7 @@ stripe_stop-requires c = let k = c.before.before.before in (k.requires.legal.hal
 
 pub overflow_sub-result-2 : goal.overflow_sub-result-2
 overflow_sub-result-2 c = let k = c in
-    omega (arith, (found k.before.before.before.before.before).starts, c.least.ensures, c.stripe_stop.ensures, k.stripe_start-y.ensures)
+    omega (arith, (found k.before.before.before.before.before).starts, c.min.ensures, c.stripe_stop.ensures, k.stripe_start-y.ensures)
 
 pub stripe_start_y-requires : goal.stripe_start_y-requires
 stripe_start_y-requires c = let k = c.before.before.before.before.before in (k.requires.legal.half, omega (arith, (found k).stripe))
@@ -68,7 +68,7 @@ returns c = let k = columns c in
     let start = c.stripe_start-y.ensures in
     placed c.unit_row.ensures refl refl start
     (ap (λ r. r - a.index % k.units-cols.result * a.size) c.right.ensures)
-    (ap2 (λ m s. m - s) (c.least.ensures ∙ ap (min a.height) c.stripe_stop.ensures) start)
+    (ap2 (λ m s. m - s) (c.min.ensures ∙ ap (min a.height) c.stripe_stop.ensures) start)
     (returned w32 c.stripe_start_y.type_inv c.stripe_start_y.ensures)
     (returned w32 c.stripe_end_y.type_inv c.stripe_end_y.ensures)
     (is_exact w32 (end_x c) tt) (is_exact w32 (end_y c) tt)

@@ -1,18 +1,9 @@
--- The rectangle at the plane's own numbers, legal where the tests pass.
-use mathlib.Core.Path.{◌∙◌}
-use Rattle.laws.specs.Congruence.{ap3}
-use Rattle.geometry.proofs.Tests.{passed}
-use Rattle.standard.specs.Stripes.{rectangle}
+-- A frame that no test refuses is a plane, divided.
+use Rattle.geometry.proofs.Tests.{passed, untested}
 use Rattle.geometry.proofs.planes.rectangle_of.Goals as goal
 
-pub rectangle_at-requires : goal.rectangle_at-requires
-rectangle_at-requires c = record {
-  legal = rw (c.sub_of.ensures, c.height_of.ensures, c.width_of.ensures) (passed _ c.requires.f_value).legal;
-  index_bound = rw (c.sub_of.ensures, c.height_of.ensures, c.width_of.ensures) c.requires.index_bound;
-}
+pub invariant_of-plane : goal.invariant_of-plane
+invariant_of-plane c = let u = untested _ c.requires.f_value in record { plane = u.0; high = u.1; wide = u.2 }
 
-pub returns : goal.returns
-returns c = let k = c in
-    let a = k.args in
-    c.rectangle_at.ensures
-    ∙ ap3 (λ s h w. rectangle s a.f.unit_size h w a.index) k.sub_of.ensures c.height_of.ensures c.width_of.ensures
+pub invariant_of-d : goal.invariant_of-d
+invariant_of-d c = record { size = (passed _ c.requires.f_value).no_5 }

@@ -1,23 +1,16 @@
 -- Each return is the number of the first test that holds.
-use Rattle.geometry.proofs.Tests.{gives_2, gives_4, gives_4_wide, gives_5, gives_0}
+use Rattle.std.proofs.lemmas.Result.{err_from_is_err_and}
+use Rattle.standard.proofs.Answers.{refused}
 use Rattle.standard.specs.Answers.{refusal_number}
+use Rattle.geometry.proofs.Tests.{gives_2_4, size_5, size_0}
 use Rattle.geometry.proofs.planes.tested.Goals as goal
 
-pub returns-then-plane : goal.returns-then-plane
-unfolding refusal_number
-returns-then-plane c = gives_2 c.args.f (cc)
+pub returns-in_err-plane-clause-number : goal.returns-in_err-plane-clause-number
+returns-in_err-plane-clause-number c = let p = err_from_is_err_and c.from_residual.result c.from_residual.ensures.1 in rw (p.1, p.2) (gives_2_4 _ _ (refused _) c.in_err-plane.ensures.number)
 
-pub returns-then-high : goal.returns-then-high
+pub returns-then-size-clause-number : goal.returns-then-size-clause-number
 unfolding refusal_number
-returns-then-high c = gives_4 c.args.f (cc) (cc)
+returns-then-size-clause-number c = size_5 c.in_ok-plane.plane _ c.in_ok-plane.ensures.passed (cc)
 
-pub returns-then-wide : goal.returns-then-wide
-unfolding refusal_number
-returns-then-wide c = gives_4_wide c.args.f (cc) (cc) (cc)
-
-pub returns-then-size : goal.returns-then-size
-unfolding refusal_number
-returns-then-size c = gives_5 c.args.f (cc) (cc) (cc) (cc)
-
-pub returns : goal.returns
-returns c = gives_0 c.args.f (cc) (cc) (cc) (cc)
+pub returns-clause-number : goal.returns-clause-number
+returns-clause-number c = size_0 c.in_ok-plane.plane _ c.in_ok-plane.ensures.passed (cc)

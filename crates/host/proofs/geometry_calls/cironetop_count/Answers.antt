@@ -3,4 +3,4 @@ use mathlib.Core.Path.{◌∙◌}
 use Rattle.host.proofs.geometry_calls.cironetop_count.Goals as goal
 
 pub returns : goal.returns
-returns c = c.counted.ensures ∙ c.count.ensures
+returns c = c.from.ensures ∙ c.count.ensures

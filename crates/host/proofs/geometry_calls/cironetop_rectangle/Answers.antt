@@ -3,4 +3,4 @@ use mathlib.Core.Path.{◌∙◌}
 use Rattle.host.proofs.geometry_calls.cironetop_rectangle.Goals as goal
 
 pub returns : goal.returns
-returns c = c.placed.ensures ∙ c.rectangle.ensures
+returns c = c.from.ensures ∙ c.rectangle.ensures

@@ -2,30 +2,37 @@
 use Prim.Native.Nat.{ℕ}
 use mathlib.Core.Path.{◌≡◌, ◌∙◌, ap}
 use native.Mathlib.Omega.{arith}
+use Rattle.standard.specs.declared.Frame.{Frame}
 use Rattle.standard.specs.Refusals.{sub_y_of}
-use Rattle.standard.specs.Depths.{depth_of}
+use Rattle.fetch.specs.declared.Source.{Source}
 use Rattle.fetch.specs.Source.{stripe_source}
-use Rattle.restoration.proofs.Whole.{a2_table}
 use Rattle.stripe_tests.proofs.Laws.{legal, rows_of}
 use Rattle.in_place.proofs.Stripe.{asked, stripe_asked, stripe_written}
-use Rattle.in_place.proofs.rows.restore_rows.Lts as lts
-use Rattle.in_place.proofs.rows.restore_rows.Reads as reads
-use Rattle.in_place.proofs.rows.restore_rows.Tie as tie
 use Rattle.in_place.proofs.rows.restore_rows.Goals as goal
 
--- what the callees answered
-module _ (t : lts.After-table tie.the-claims reads.Pre reads.Post tie.handed_clauses) where
-  deep : t.depth_of-d.result ≡ depth_of t.args.f.depth
-  deep = t.depth_of-d.ensures
+-- the stripe's source, by what the callees answered
+source_is : (own s : ℕ) (f : Frame) (r : Source) → r ≡ stripe_source own s → own ≡ sub_y_of f → r ≡ stripe_source (sub_y_of f) s
+source_is own s f r e o = e ∙ ap (λ (n : ℕ). stripe_source n s) o
 
-  source : t.stripe_source-r.result ≡ stripe_source (sub_y_of t.args.f) t.args.s
-  source = t.stripe_source-r.ensures ∙ ap (λ (o : ℕ). stripe_source o t.args.s) t.sub_of.ensures
+pub extent-w-requires : goal.extent-w-requires
+extent-w-requires c = let l = legal c.requires.stripe_passed.0.numbered in (l.sub_x, l.wide)
 
-pub stripe_source-r-requires : goal.stripe_source-r-requires
-stripe_source-r-requires c = let s = c in let p = s.requires.stripe_passed.0 in (omega (arith, c.sub_of.ensures, (legal p.numbered).own_y), (rows_of p.numbered s.args.s p.there).few)
+pub extent-h-requires : goal.extent-h-requires
+extent-h-requires c = let l = legal c.requires.stripe_passed.0.numbered in (l.sub_y, l.high)
+
+pub stripe_source-source-requires : goal.stripe_source-source-requires
+stripe_source-source-requires c = let p = c.requires.stripe_passed.0 in (omega (arith, c.sub_of.ensures, (legal p.numbered).own_y), (rows_of p.numbered c.args.s p.there).few)
+
+pub invariant_of-v : goal.invariant_of-v
+invariant_of-v c = let p = c.requires.stripe_passed in
+    let b = stripe_asked p.0 p.1 c.args.copy.now c.requires.copied _ (source_is _ _ c.args.f _ c.stripe_source-source.ensures c.sub_of.ensures) _ c.depth_of-depth.ensures _ _ c.extent-w.ensures c.extent-h.ensures in
+    record { fetchable = b.1; sides = b.2 }
 
 pub restore_rectangles-requires : goal.restore_rectangles-requires
-restore_rectangles-requires c = let t = c.before.before.before in let s = t in let p = s.requires.stripe_passed.0 in let b = stripe_asked p s.requires.stripe_passed.1 s.args.copy.now s.requires.copied _ (source t) _ (deep t) in record { asked = (asked p s.requires.stripe_passed.1, p.there, omega (arith, p.long)); stripe = (b.0, a2_table _ t.table.ensures); fetchable = b.1 }
+restore_rectangles-requires c = let p = c.requires.stripe_passed in
+    let b = stripe_asked p.0 p.1 c.args.copy.now c.requires.copied _ (source_is _ _ c.args.f _ c.stripe_source-source.ensures c.sub_of.ensures) _ c.depth_of-depth.ensures _ _ c.extent-w.ensures c.extent-h.ensures in
+    record { asked = (asked p.0 p.1, p.0.there, omega (arith, p.0.long)); stripe = b.0; view = (c.extent-w.ensures, c.extent-h.ensures) }
 
 pub returns : goal.returns
-returns c = let k = c in let t = k.before.before.before.before.before.before in let s = t in stripe_written s.requires.stripe_passed.0 s.requires.stripe_passed.1 s.args.copy.now s.requires.copied _ (source t) _ (deep t) _ k.restore_rectangles.ensures
+returns c = let p = c.requires.stripe_passed in
+    stripe_written p.0 p.1 c.args.copy.now c.requires.copied _ (source_is _ _ c.args.f _ c.stripe_source-source.ensures c.sub_of.ensures) _ c.depth_of-depth.ensures _ c.restore_rectangles.ensures

@@ -1,43 +1,25 @@
 -- The run so far is the stamp of j sums; what is read lies before it and is as it was.
 use Prim.Native.Nat.{ℕ, ◌+◌, ◌<◌}
-use mathlib.Core.Path.{◌≡◌, ◌∙◌, ap}
+use mathlib.Core.Path.{◌≡◌, refl, ◌∙◌, ap}
 use native.Mathlib.Omega.{arith}
-use lib.ListN.{length, get_or}
-use lib.IntN.{pos}
+use lib.ListN.{get_or}
+use lib.IntN.{pos, nat_abs}
 use mir.Syntax.{w32}
 use Rattle.laws.specs.ReadBack.{returned}
 use Rattle.laws.specs.Bounds.{samples_part, samples_same}
-use Rattle.laws.specs.Runs.{stamp, stamp_none, stamp_more, stamp_length, stamp_before}
-use lib.IntN.{nat_abs}
-use Rattle.boxes.specs.Reads.{sample_at}
-use Rattle.selfguided.specs.Weighing.{five_six}
+use Rattle.laws.specs.Runs.{stamp_none, stamp_more, stamp_before}
 use Rattle.selfguided.proofs.WeighLaws.{six_same}
 use Rattle.selfguided.proofs.weighted.six_row.Goals as goal
 
-module _ (c : goal.In-loop-j) where
-  abbrev a : goal.Start
-  a = c.before.before
-
-  kept : (k : ℕ) → k < a.args.to → get_or c.loop-j.s k (pos 0) ≡ get_or a.args.s.now k (pos 0)
-  kept k h = stamp_before _ _ _ _ _ _ _ c.loop-j.invariant.1 h
-
-  long : length c.loop-j.s ≡ length a.args.s.now
-  long = ap length c.loop-j.invariant.1 ∙ stamp_length _ _ _ _
+kept : (c : goal.In-loop-j) → (k : ℕ) → k < c.args.to → get_or c.loop-j.s k (pos 0) ≡ get_or c.args.s.now k (pos 0)
+kept c k h = stamp_before _ _ _ _ _ _ _ c.loop-j.invariant h
 
 pub loop-j-init : goal.loop-j-init
-loop-j-init c = (omega arith, stamp_none _ _ _)
+loop-j-init c = stamp_none _ _ _
 
-pub six_at-v-requires : goal.six_at-v-requires
-six_at-v-requires c = let i = c in (omega (arith, long i), samples_same _ (samples_part _ _ (a i).requires.2 (omega arith) (omega arith)) (λ k p q. kept i k (omega arith)))
-
-pub bounds-s-to : goal.bounds-s-to
-bounds-s-to c = omega (arith, long c.before)
+pub six_at-requires : goal.six_at-requires
+six_at-requires c = (omega (arith, c.loop-j.auto.s), samples_same _ (samples_part _ _ c.requires.2 (omega arith) (omega arith)) (λ k p q. kept c k (omega arith)))
 
 pub loop-j-preserved : goal.loop-j-preserved
-loop-j-preserved c = let i = c.before in (omega arith, stamp_more _ _ _ _ _ _ _ i.loop-j.invariant.1 (omega arith) (returned w32 c.six_at-v.type_inv (c.six_at-v.ensures ∙ ap pos (six_same _ _ (λ k h. ap nat_abs (kept i ((a i).args.from + i.loop-j.j + k) (omega arith)))))))
-
-pub shape_of-s : goal.shape_of-s
-shape_of-s c = ap length c.loop-j.invariant.1 ∙ stamp_length _ _ _ _
-
-pub returns : goal.returns
-returns c = let a = c.args in c.loop-j.invariant.1 ∙ ap (λ (m : ℕ). stamp (λ k. pos (five_six (λ m. sample_at a.s.now (a.from + k + m)))) a.to m a.s.now) (omega arith)
+loop-j-preserved c = stamp_more _ _ _ _ _ _ _ c.loop-j.invariant refl
+    (returned w32 c.six_at.type_inv (c.six_at.ensures ∙ ap pos (six_same _ _ (λ k h. ap nat_abs (kept c.before (c.args.from + c.loop-j.j + k) (omega arith))))))

@@ -1,5 +1,5 @@
 -- The run so far is the stamp of j sums; what is read lies before it and is as it was.
-use Prim.Native.Nat.{◌+◌, ◌-◌, ◌≤◌}
+use Prim.Native.Nat.{◌+◌}
 use mathlib.Core.Path.{◌≡◌}
 use lib.IntN.{pos}
 use Rattle.laws.specs.Runs.{stamp}
@@ -8,7 +8,4 @@ use Rattle.selfguided.specs.Weighing.{five_six}
 use Rattle.selfguided.proofs.weighted.six_row.Given as goal
 
 abbrev pub invariant-loop-j : goal.invariant-loop-j
-invariant-loop-j l = (l.j ≤ l.n) × (l.s ≡ stamp (λ k. pos (five_six (λ m. sample_at l.initial.s (l.from + k + m)))) l.to l.j l.initial.s)
-
-abbrev pub decreases-loop-j : goal.decreases-loop-j
-decreases-loop-j l = l.n - l.j
+invariant-loop-j l = l.s ≡ stamp (λ k. pos (five_six (λ m. sample_at l.initial.s (l.from + k + m)))) l.to l.j l.initial.s

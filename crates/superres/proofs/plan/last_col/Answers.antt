@@ -1,9 +1,12 @@
--- The column by the two subsamplings.
-use Rattle.superres.proofs.Laws.{last_full, last_half}
+-- The column by the subsampling: there is one of each.
+use Prim.Native.Nat.{ℕ, zero, suc, ◌+◌, ◌*◌, ◌/◌, ◌^◌, ◌≤◌, ◌<◌}
+use native.Mathlib.Omega.{arith}
 use Rattle.superres.proofs.plan.last_col.Goals as goal
 
-pub returns-then-sub_x-eq0 : goal.returns-then-sub_x-eq0
-returns-then-sub_x-eq0 c = last_full _ _ c.if-sub_x-eq0.true
+some_col : (frame n : ℕ) → 0 < frame → n ≤ 1 → 1 ≤ 4 * (2 * ((frame + 7) / 8) / 2 ^ n)
+some_col frame zero h p = omega arith
+some_col frame (suc zero) h p = omega arith
+some_col frame (suc (suc n)) h p = absurd (omega arith)
 
-pub returns : goal.returns
-returns c = last_half _ _ c.requires.2 c.if-sub_x-eq0.false
+pub overflow_sub-result : goal.overflow_sub-result
+overflow_sub-result c = some_col c.args.frame c.args.sub_x c.requires.0 c.requires.2

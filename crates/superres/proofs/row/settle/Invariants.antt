@@ -1,5 +1,4 @@
 -- The run so far is the stamp of x samples.
-use Prim.Native.Nat.{◌-◌, ◌≤◌}
 use mathlib.Core.Path.{◌≡◌}
 use lib.ListN.{get_or}
 use lib.IntN.{pos}
@@ -8,7 +7,4 @@ use Rattle.standard.specs.Arithmetic.{round2, clip_to}
 use Rattle.superres.proofs.row.settle.Given as goal
 
 abbrev pub invariant-loop-x : goal.invariant-loop-x
-invariant-loop-x l = (l.x ≤ l.n) × (l.out ≡ stamp (λ k. pos (clip_to l.top (round2 7 (get_or l.line k (pos 0))))) l.to l.x l.initial.out)
-
-abbrev pub decreases-loop-x : goal.decreases-loop-x
-decreases-loop-x l = l.n - l.x
+invariant-loop-x l = l.out ≡ stamp (λ k. pos (clip_to l.top (round2 7 (get_or l.line k (pos 0))))) l.to l.x l.initial.out

@@ -1,22 +1,25 @@
 -- The row of the pass, each value by the law that it is the standard's.
-use mathlib.Core.Path.{◌∙◌}
-use native.Mathlib.Omega.{arith}
 use Prim.Native.Nat.{◌+◌}
-use Rattle.laws.specs.Runs.{stamp_same}
-use Rattle.wiener.proofs.TapLaws.{small_horizontal, narrow_rows}
+use mathlib.Core.Path.{sym, ◌∙◌, ap, subst}
+use mathlib.Core.List.{List}
+use native.Mathlib.Omega.{arith}
+use lib.IntN.{ℤ}
+use Rattle.std.proofs.lemmas.List.{map-id}
+use Rattle.laws.specs.Runs.{stamp, stamp_same}
+use Rattle.wiener.specs.Passes.{Halves, seven, settled}
+use Rattle.wiener.proofs.TapLaws.{small_horizontal, narrow_rows, narrow_part}
 use Rattle.wiener.proofs.SumLaws.{halves_part}
-use Rattle.wiener.proofs.PassLaws.{AcrossNumbers, across_mild, across_value, samples_halves}
-use Rattle.wiener.proofs.across.across_row.Lts as lts
-use Rattle.wiener.proofs.across.across_row.Reads as reads
-use Rattle.wiener.proofs.across.across_row.Tie as tie
+use Rattle.wiener.proofs.PassLaws.{across_numbers, across_value, samples_halves}
 use Rattle.wiener.proofs.across.across_row.Goals as goal
 
-numbers : (c : lts.After-across_rounding tie.the-claims reads.Pre reads.Post tie.handed_clauses) → AcrossNumbers c.args.d c.across_rounding-a.result
-numbers c = record { add_is = c.across_rounding-a.ensures.add_value.0; shift_is = c.across_rounding-a.ensures.add_value.1; low_is = c.across_rounding-a.ensures.low_value.0; high_is = c.across_rounding-a.ensures.low_value.1 }
-
-pub across_values-requires : goal.across_values-requires
-across_values-requires c = let s = c in record { n_in_bounds = (omega arith, omega arith, omega arith); halves = halves_part _ _ (samples_halves s.args.d s.requires.samples) (omega arith) (omega arith); narrow_rows = narrow_rows (small_horizontal s.requires.legal_taps.0) s.requires.legal_taps.1; mild = across_mild (numbers c.before) }
+pub settled_sums-requires : goal.settled_sums-requires
+settled_sums-requires c = let s = c.args in let p = c.requires in record {
+  n_in_bounds = (omega arith, omega arith, omega (arith, s.taps.now.few));
+  halves = subst (Halves _ _) (sym (map-id _)) (halves_part _ _ (samples_halves s.d p.samples) (omega arith) (omega arith));
+  narrow_rows = narrow_part _ (omega arith) (narrow_rows (small_horizontal s.taps.now.legal) s.taps.now.across);
+}
 
 pub returns : goal.returns
-returns c = let s = c in
-    c.across_values.ensures ∙ stamp_same _ _ _ _ _ (λ x h. across_value s.args.t (numbers c.before.before.before) s.requires.legal_taps.1 s.requires.samples x (s.args.from + x) h (omega arith) (omega arith))
+returns c = let s = c.args in
+    sym (map-id _) ∙ c.settled_sums.ensures ∙ ap (stamp _ s.to s.n) (map-id s.s.now)
+    ∙ stamp_same _ _ _ _ _ (λ x h. ap (λ (l : List ℤ). settled c.across_rounding.result (seven s.taps.now.hr x l (s.from + x) 1)) (map-id s.src.now) ∙ across_value s.taps.now.t (across_numbers c.across_rounding.ensures.add_value c.across_rounding.ensures.low_value) s.taps.now.across c.requires.samples x (s.from + x) (omega arith) (omega arith) (omega arith))

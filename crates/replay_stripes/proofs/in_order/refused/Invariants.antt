@@ -1,9 +1,0 @@
--- The refused calls are at most the calls made.
-use Rattle.std.proofs.Common.{◌-◌, ◌≤◌}
-use Rattle.replay_stripes.proofs.in_order.refused.Given as goal
-
-abbrev pub invariant-loop-k : goal.invariant-loop-k
-invariant-loop-k l = (l.bad ≤ l.k) × (l.k ≤ l.n)
-
-abbrev pub decreases-loop-k : goal.decreases-loop-k
-decreases-loop-k l = l.n - l.k
