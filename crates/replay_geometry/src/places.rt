@@ -60,7 +60,7 @@ fn is_placed(mut record: Record<'_>, f: Frame) -> Result<bool, NoRecord> {
 }
 
 // A record of 23 entries after its count.
-pub fn is_rectangle(mut record: Record<'_>) -> Result<bool, NoRecord> {
+pub(crate) fn is_rectangle(mut record: Record<'_>) -> Result<bool, NoRecord> {
     if record.number()? != 23 {
         return Ok(false);
     }
@@ -69,7 +69,7 @@ pub fn is_rectangle(mut record: Record<'_>) -> Result<bool, NoRecord> {
 }
 
 // Block row and column, then the block's place; 18 entries after the count.
-pub fn is_block(mut record: Record<'_>) -> Result<bool, NoRecord> {
+pub(crate) fn is_block(mut record: Record<'_>) -> Result<bool, NoRecord> {
     if record.number()? != 18 {
         return Ok(false);
     }
