@@ -37,28 +37,69 @@ pub fn rows_of(tr: &mut [i16; 256], c0: i32, c1: i32, c2: i32, w: usize)
     tap_rows(tr, &[c0, c1, c2, m], w);
 }
 
-// A unit's taps for n columns: the rows of the horizontal pass and those of the vertical pass.
-#[derive(Drop)]
-pub struct Repeated {
+// A unit's taps for n columns: the rows of the horizontal pass and those of the vertical pass, lent, since by value they would be copied.
+#[derive(Clone, Copy)]
+pub struct Repeated<'a> {
     pub t: Taps,
     pub n: usize,
-    pub hr: [i16; 256],
-    pub vr: [i16; 256],
+    pub hr: &'a [i16; 256],
+    pub vr: &'a [i16; 256],
     pub ghost legal: { LegalTaps t },
     pub ghost few: { n ≤ 64 },
-    pub ghost across: { TapRows t.h0 t.h1 t.h2 n hr },
-    pub ghost down: { TapRows t.v0 t.v1 t.v2 n vr },
+    pub ghost across: { TapRows t.h0 t.h1 t.h2 n hr.now },
+    pub ghost down: { TapRows t.v0 t.v1 t.v2 n vr.now },
 }
 
-impl Repeated {
-    pub fn new(t: Taps, n: usize) -> Self
+// What the horizontal pass reads of a unit's taps: their rows for n columns.
+#[derive(Clone, Copy)]
+pub struct Across<'a> {
+    pub t: Taps,
+    pub n: usize,
+    pub tr: &'a [i16; 256],
+    pub ghost legal: { LegalTaps t },
+    pub ghost few: { n ≤ 64 },
+    pub ghost rows: { TapRows t.h0 t.h1 t.h2 n tr.now },
+}
+
+// The same of the vertical pass.
+#[derive(Clone, Copy)]
+pub struct Down<'a> {
+    pub t: Taps,
+    pub n: usize,
+    pub tr: &'a [i16; 256],
+    pub ghost legal: { LegalTaps t },
+    pub ghost few: { n ≤ 64 },
+    pub ghost rows: { TapRows t.v0 t.v1 t.v2 n tr.now },
+}
+
+impl<'a> Repeated<'a> {
+    // Writes the rows of both passes to the room that is lent for each.
+    pub fn new(t: Taps, n: usize, hr: &'a mut [i16; 256], vr: &'a mut [i16; 256]) -> Repeated<'a>
         requires { (n ≤ 64) × LegalTaps t }
         ensures { (result.t ≡ t) × (result.n ≡ n) }
     {
-        let mut hr = [0i16; 256];
-        let mut vr = [0i16; 256];
-        rows_of(&mut hr, t.h0, t.h1, t.h2, n);
-        rows_of(&mut vr, t.v0, t.v1, t.v2, n);
+        rows_of(hr, t.h0, t.h1, t.h2, n);
+        rows_of(vr, t.v0, t.v1, t.v2, n);
         Repeated { t, n, hr, vr }
+    }
+
+    pub fn across(&self) -> Across<'a>
+        ensures { (result.t ≡ self.now.t) × (result.n ≡ self.now.n) }
+    {
+        Across {
+            t: self.t,
+            n: self.n,
+            tr: self.hr,
+        }
+    }
+
+    pub fn down(&self) -> Down<'a>
+        ensures { (result.t ≡ self.now.t) × (result.n ≡ self.now.n) }
+    {
+        Down {
+            t: self.t,
+            n: self.n,
+            tr: self.vr,
+        }
     }
 }

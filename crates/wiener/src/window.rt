@@ -9,7 +9,7 @@ ghost use Rattle.wiener.specs.Passes.{Halves, across_at, down_at, seen};
 
 use crate::across::across_row;
 use crate::down::down_row;
-use crate::taps::Repeated;
+use crate::taps::{Across, Down, Repeated};
 use standard::{Depth, Taps};
 
 // The horizontal pass over the h + 6 rows of a window, `stride` apart, to the first h + 6 rows of w in s.
@@ -20,7 +20,7 @@ pub fn across_window(
     stride: usize,
     w: usize,
     h: usize,
-    taps: &Repeated,
+    taps: &Across,
     d: Depth,
 )
     requires w_in_bounds { ((h + 6) * w ≤ length s.old) × (at + (h + 5) * stride + (w + 6) ≤ length win.now) × (w ≤ taps.now.n) × (h ≤ 64) }
@@ -40,7 +40,7 @@ pub fn down_window(
     s: &[i16],
     w: usize,
     h: usize,
-    taps: &Repeated,
+    taps: &Down,
     d: Depth,
 )
     requires w_in_bounds { (to + h * stride + w ≤ length out.old + stride) × ((h + 6) * w ≤ length s.now) × (w ≤ taps.now.n) × (h ≤ 64) }
@@ -71,7 +71,9 @@ pub fn wiener_window(
     requires samples { Samples (largest d) at (at + (h + 5) * stride + (w + 6)) win.now }
     ensures { out.new ≡ rows (λ i j. pos (wiener d t (seen win.now at stride i j))) to out_stride w h out.old }
 {
-    let taps = Repeated::new(t, w);
-    across_window(s, win, at, stride, w, h, &taps, d);
-    down_window(out, to, out_stride, s, w, h, &taps, d);
+    let mut hr = [0i16; 256];
+    let mut vr = [0i16; 256];
+    let taps = Repeated::new(t, w, &mut hr, &mut vr);
+    across_window(s, win, at, stride, w, h, &taps.across(), d);
+    down_window(out, to, out_stride, s, w, h, &taps.down(), d);
 }

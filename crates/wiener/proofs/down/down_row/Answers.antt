@@ -16,10 +16,10 @@ pub settled_sums-requires : goal.settled_sums-requires
 settled_sums-requires c = let s = c.args in let p = c.requires in record {
   n_in_bounds = (omega arith, omega arith, omega (arith, s.taps.now.few));
   halves = subst (Halves _ _) (sym (map-id _)) (halves_part _ _ p.halves (omega arith) (omega arith));
-  narrow_rows = narrow_part _ (omega arith) (narrow_rows (small_vertical s.taps.now.legal) s.taps.now.down);
+  narrow_rows = narrow_part _ (omega arith) (narrow_rows (small_vertical s.taps.now.legal) s.taps.now.rows);
 }
 
 pub returns : goal.returns
 returns c = let s = c.args in
     sym (map-id _) ∙ c.settled_sums.ensures ∙ ap (stamp _ s.to s.n) (map-id s.out.now)
-    ∙ stamp_same _ _ _ _ _ (λ x h. ap (λ (l : List ℤ). settled c.down_rounding.result (seven s.taps.now.vr x l (s.from + x) s.n)) (map-id s.s.now) ∙ down_value s.taps.now.t (down_numbers c.down_rounding.ensures.add_value c.down_rounding.ensures.low_value) s.taps.now.down x s.s.now (s.from + x) s.n (omega arith))
+    ∙ stamp_same _ _ _ _ _ (λ x h. ap (λ (l : List ℤ). settled c.down_rounding.result (seven s.taps.now.tr.now x l (s.from + x) s.n)) (map-id s.s.now) ∙ down_value s.taps.now.t (down_numbers c.down_rounding.ensures.add_value c.down_rounding.ensures.low_value) s.taps.now.rows x s.s.now (s.from + x) s.n (omega arith))
