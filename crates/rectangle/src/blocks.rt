@@ -11,21 +11,26 @@ use fetch::Rect;
 use standard::Taps;
 use wiener::taps::Repeated;
 
-// Block after block; s is for the middle values.
+// Block after block; s is for the middle values. The call stands twice on purpose: inlined from one place, its vertical loop is longer.
 fn wiener_blocks(out: &mut [i32], v: View<'_>, r: Rect, s: &mut [i16], taps: &Repeated)
     requires w_in_bounds { (v.h * v.w ≤ length out.old) × (4480 ≤ length s.old) × (64 ≤ taps.now.n) × (0 < r.w) × (0 < r.h) × (r.h ≤ 64) × Within r.x r.y r.w r.h v.w v.h }
     ensures { out.new ≡ paint r.x r.y r.w r.h v.entry.w (λ y x. pos (standard_wiener.wiener v.entry.depth taps.now.t (seen v.entry y x))) out.old }
 {
-    for b in 0..r.w.div_ceil(64) {
-        let at = b * 64;
-        let n = (r.w - at).min(64);
+    let full = (r.w - 1) / 64;
+    for b in 0..full {
         let block = Rect {
-            x: r.x + at,
-            w: n,
+            x: r.x + b * 64,
+            w: 64,
             ..r
         };
         wiener_block(out, v, block, s, taps);
     }
+    let last = Rect {
+        x: r.x + full * 64,
+        w: r.w - full * 64,
+        ..r
+    };
+    wiener_block(out, v, last, s, taps);
 }
 
 // A rectangle of a Wiener unit.
@@ -34,7 +39,9 @@ pub fn wiener_rect(out: &mut [i32], v: View<'_>, r: Rect, t: Taps)
     requires legal_taps { LegalTaps t }
     ensures { out.new ≡ paint r.x r.y r.w r.h v.entry.w (λ y x. pos (standard_wiener.wiener v.entry.depth t (seen v.entry y x))) out.old }
 {
-    let taps = Repeated::new(t, 64);
+    let mut hr = [0i16; 256];
+    let mut vr = [0i16; 256];
+    let taps = Repeated::new(t, 64, &mut hr, &mut vr);
     let mut s = [0i16; 4480];
     wiener_blocks(out, v, r, &mut s, &taps);
 }

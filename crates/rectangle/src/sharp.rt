@@ -16,10 +16,11 @@ use crate::view::View;
 use fetch::{Rect, gather_row, near};
 use standard::Depth;
 use wiener::across::across_row;
-use wiener::taps::Repeated;
+use wiener::taps::{Across, Repeated};
 use wiener::window::down_window;
 
-// n middle values of a row from column x0 on.
+// n middle values of a row from column x0 on. `clamped_row` is called from two places on purpose: inlined into one, its copy becomes a memcpy,
+// which the archive for C would need from outside.
 fn middle_row(
     s: &mut [i16],
     to: usize,
@@ -27,14 +28,16 @@ fn middle_row(
     row: &[i32],
     x0: usize,
     n: usize,
-    taps: &Repeated,
+    taps: &Across,
     d: Depth,
 )
     requires n_in_bounds { (to + n ≤ length s.old) × (x0 + n ≤ length row.now) × (length row.now ≤ 16384) × (0 < n) × (n ≤ taps.now.n) }
     requires samples { Samples (largest d) 0 (length row.now) row.now }
     ensures { s.new ≡ stamp (λ x. biased d (standard_wiener.across d taps.now.t (λ _ b. nat_abs (get_or row.now (standard_fetch.near (length row.now) x0 (x + b)) (pos 0))) 0)) to n s.old }
 {
-    if x0 < 3 || row.len() < x0 + n + 3 {
+    if x0 < 3 {
+        clamped_row(s, to, line, row, x0, n, taps, d);
+    } else if row.len() < x0 + n + 3 {
         clamped_row(s, to, line, row, x0, n, taps, d);
     } else {
         across_row(s, to, row, x0 - 3, n, taps, d);
@@ -49,7 +52,7 @@ fn clamped_row(
     row: &[i32],
     x0: usize,
     n: usize,
-    taps: &Repeated,
+    taps: &Across,
     d: Depth,
 )
     requires n_in_bounds { (to + n ≤ length s.old) × (x0 + n ≤ length row.now) × (length row.now ≤ 16384) × (0 < n) × (n ≤ taps.now.n) }
@@ -61,7 +64,7 @@ fn clamped_row(
 }
 
 // The horizontal pass over the h + 6 rows that the rectangle's samples read, to the first h + 6 rows of w in s.
-fn across_rows(s: &mut [i16], v: View<'_>, r: Rect, taps: &Repeated)
+fn across_rows(s: &mut [i16], v: View<'_>, r: Rect, taps: &Across)
     requires rw_in_bounds { ((r.h + 6) * r.w ≤ length s.old) × (0 < r.w) × (r.w ≤ taps.now.n) × (r.h ≤ 64) × Within r.x r.y r.w r.h v.w v.h }
     ensures { s.new ≡ rows (λ k x. biased v.entry.depth (standard_wiener.across v.entry.depth taps.now.t (λ _ b. source_cell v.entry.inside.now v.entry.beside.now v.entry.w v.entry.source (standard_fetch.near v.entry.h r.y k) (standard_fetch.near v.entry.w r.x (x + b))) 0)) 0 r.w r.w (r.h + 6) s.old }
 {
@@ -78,6 +81,15 @@ pub fn wiener_block(out: &mut [i32], v: View<'_>, r: Rect, s: &mut [i16], taps: 
     requires w_in_bounds { (v.h * v.w ≤ length out.old) × ((r.h + 6) * r.w ≤ length s.old) × (0 < r.w) × (r.w ≤ taps.now.n) × (0 < r.h) × (r.h ≤ 64) × Within r.x r.y r.w r.h v.w v.h }
     ensures { out.new ≡ paint r.x r.y r.w r.h v.entry.w (λ y x. pos (standard_wiener.wiener v.entry.depth taps.now.t (seen v.entry y x))) out.old }
 {
-    across_rows(s, v, r, taps);
-    down_window(out, r.y * v.w + r.x, v.w, s, r.w, r.h, taps, v.depth);
+    across_rows(s, v, r, &taps.across());
+    down_window(
+        out,
+        r.y * v.w + r.x,
+        v.w,
+        s,
+        r.w,
+        r.h,
+        &taps.down(),
+        v.depth,
+    );
 }
