@@ -10,7 +10,9 @@ pub fn copy_run(dst: &mut [i32], to: usize, src: &[i32], from: usize, n: usize)
     requires { (to + n ≤ length dst.old) × (from + n ≤ length src.now) }
     ensures { dst.new ≡ stamp (λ x. get_or src.now (from + x) (pos 0)) to n dst.old }
 {
-    dst[to..to + n].copy_from_slice(&src[from..from + n]);
+    for x in 0..n {
+        dst[to + x] = src[from + x];
+    }
 }
 
 // A value, n times, at place `to` of dst.

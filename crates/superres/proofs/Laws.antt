@@ -33,7 +33,7 @@ pub quot_small : (x y : ℤ) (n : ℕ) → nat_abs x ≤ n → nat_abs (quot_z x
 quot_small x y n h = omega (arith, quot_any x y)
 
 -- what the machine divides, read as x and y: the quotient fits, and is read as the quotient
-quot_fits : {r s : ℤ} (x y : ℤ) → r ≡ x → s ≡ y → nat_abs x ≤ 1073741824 → SFits w32 (quot_z r s)
+pub quot_fits : {r s : ℤ} (x y : ℤ) → r ≡ x → s ≡ y → nat_abs x ≤ 1073741824 → SFits w32 (quot_z r s)
 quot_fits x y p q h = subst (SFits w32) (sym (ap2 quot_z p q)) (fits_abs 1073741824 (quot_small x y 1073741824 h) tt)
 
 pub quot_read : {r s : ℤ} (x y : ℤ) → r ≡ x → s ≡ y → nat_abs x ≤ 1073741824 → to_z w32 (of_z w32 (quot_z r s)) ≡ quot_z x y

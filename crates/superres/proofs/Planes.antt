@@ -3,11 +3,14 @@ use mathlib.Core.Path.{◌≡◌, sym, ◌∙◌, ap, subst}
 use mathlib.Core.Bool.{true, false}
 use mathlib.Core.List.{List}
 use Prim.Native.Nat.{ℕ, ◌+◌, ◌-◌, ◌*◌, ◌<◌, min}
+use native.Mathlib.Omega.{arith}
 use lib.IntN.{ℤ, pos, nat_abs, ◌*ℤ◌}
 use lib.Signed.{◌≤ℤ◌, yes_non_neg, pos-nat_abs}
-use lib.ListN.{get_or}
+use lib.ListN.{length, get_or}
+use lib.Seq.{ext_get_or}
 use Rattle.laws.specs.Congruence.{ap2}
 use Rattle.laws.specs.Lists.{plane, plane_at, plane_length, is_plane}
+use Rattle.laws.specs.Runs.{stamp, stamp_at, stamp_length}
 use Rattle.standard.specs.declared.Depth.{Depth}
 use Rattle.standard.specs.declared.Scaling.{Scaling}
 use Rattle.standard.specs.Arithmetic.{round2, clip_to}
@@ -20,7 +23,7 @@ use Rattle.standard.specs.UpscaleFilter.{up_tap}
 use Rattle.standard.proofs.Sums.{sum_ℤ_same}
 use Rattle.superres.specs.Scaled.{scaled, place_at, Fit}
 use Rattle.superres.specs.Sides.{Planned}
-use Rattle.superres.proofs.Clean.{Clean, sample, fits, out_is}
+use Rattle.superres.proofs.Clean.{Clean, sample, copied_long, fits, out_is}
 use Rattle.superres.proofs.Laws.{phase_bits, column_place}
 
 pub scaled_is : (dep : Depth) (d u lc cols y x : ℕ) (input : List ℤ) → ((k : ℕ) → pos 0 ≤ℤ get_or input k (pos 0))
@@ -42,6 +45,16 @@ module _ {s : Scaling} {input : List ℤ} {out : ℕ} (c : Clean s input out) wh
   pub copied : copies s ≡ true → input ≡ upscaled_slice s input
   unfolding upscaled_slice
   copied e = rw e
+
+  -- a run of the input over all of the output
+  pub copied_run : copies s ≡ true → (o o' : List ℤ) → length o ≡ out → o' ≡ stamp (λ x. get_or input (0 + x) (pos 0)) 0 (length input) o → o' ≡ upscaled_slice s input
+  copied_run e o o' l p = whole ∙ copied e
+    where
+      long : length o' ≡ length input
+      long = ap length p ∙ stamp_length _ _ _ _ ∙ l ∙ sym (copied_long c e)
+
+      whole : o' ≡ input
+      whole = ext_get_or (pos 0) o' input long (λ k h. stamp_at _ 0 (length input) o o' k k (pos 0) p (omega (arith, l, copied_long c e)) (omega (arith, long)) (omega arith) ∙ ap (λ (j : ℕ). get_or input j (pos 0)) (omega arith))
 
   -- the same of a plan's numbers
   module _ (e : copies s ≡ false) {a b l cols rows width top : ℕ} (p : Planned s a b l cols rows width top) where

@@ -16,6 +16,7 @@ ghost use Rattle.standard.specs.Refusals.{first, upscale_tests};
 use block::{Source, scale};
 use plan::plan_of;
 use refusals::{is_copy, tested};
+use runs::copy_run;
 use standard::{Refusal, Scaling};
 
 // What a call that no test refuses writes.
@@ -24,7 +25,7 @@ fn write(s: Scaling, input: &[i32], output: &mut [i32])
     ensures { output.new ≡ upscaled_slice s input.now }
 {
     if is_copy(s) {
-        output.copy_from_slice(input);
+        copy_run(output, 0, input, 0, input.len());
         return;
     }
     let p = plan_of(s);

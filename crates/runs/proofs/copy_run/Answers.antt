@@ -1,6 +1,12 @@
--- The part that was copied is the run.
-use Rattle.laws.specs.Parts.{part_copied}
+-- The run so far is the stamp of x samples; one more store makes it x + 1.
+use mathlib.Core.Path.{refl}
+use mir.Syntax.{w32}
+use Rattle.laws.specs.ReadBack.{returned}
+use Rattle.laws.specs.Runs.{stamp_none, stamp_more}
 use Rattle.runs.proofs.copy_run.Goals as goal
 
-pub returns : goal.returns
-returns c = part_copied _ _ _ _ _ _ _ c.requires.0 c.requires.1 c.copy_from_slice.ensures.after
+pub loop-x-init : goal.loop-x-init
+loop-x-init c = stamp_none _ _ _
+
+pub loop-x-preserved : goal.loop-x-preserved
+loop-x-preserved c = stamp_more _ _ _ _ _ _ _ c.loop-x.invariant refl (returned w32 c.dst-1.given refl)
