@@ -24,9 +24,9 @@ pub fn tested(f: Frame) -> Result<Divided, Refusal>
     ensures number { number_of result ≡ first (count_tests f) }
     ensures passed { IfOk result (λ d. d.plane.frame ≡ f) }
 {
-    let size = bad_unit_size(f.plane, f.sub_x, f.sub_y, f.unit_size);
     let plane = plane_of(f)?;
-    if size {
+    // Last, so that what follows knows the size for a power of two: a shift stands for each division by it.
+    if bad_unit_size(f.plane, f.sub_x, f.sub_y, f.unit_size) {
         return Err(Refusal::BadUnitSize);
     }
     Ok(Divided { plane })
