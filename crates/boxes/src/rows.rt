@@ -15,6 +15,7 @@ use crate::scale::{Scale, area};
 use crate::shares::{b2_of, z_of};
 use crate::sums::sum_at;
 use crate::table::A2;
+pub use crate::table::table;
 
 // z of a box of radius R: sums of squares down from place fa on, the box's sum at fb.
 pub fn z_at<const R: usize>(s: &[i32], fa: usize, fb: usize, z: Scale) -> i32

@@ -20,8 +20,8 @@ pub fn table(tab: &mut [i32; 256])
 // The table as the rows of a2 read it.
 #[derive(Drop)]
 pub struct A2 {
-    tab: [i32; 256],
-    ghost filled: { A2Table tab },
+    pub tab: [i32; 256],
+    pub ghost filled: { A2Table tab },
 }
 
 impl A2 {
