@@ -31,9 +31,8 @@ use Rattle.selfguided.proofs.ParamLaws.{first_present, second_present}
 use Rattle.selfguided.proofs.GuidedLaws.{window_at}
 
 -- the scratch that the call asks for has room for all areas
-pub window_of : {d : Depth} {w h odd : ℕ} {s : List ℤ} → (1 ≤ w) × (w ≤ 383) × (1 ≤ h) × (h ≤ 64) × (odd ≤ 1) × (6 * (w + 8) * (h + 8) ≤ length s) →
-    Samples (largest d) 0 ((h + 6) * (w + 6)) s → Window d w h odd s
-window_of r S = record { width = r.1; height = r.3; parity = r.4; room = omega (arith, r.5); samples = S }
+pub window_of : {d : Depth} {w h odd : ℕ} {s : List ℤ} → w ≤ 383 → h ≤ 64 → odd ≤ 1 → 6 * (w + 8) * (h + 8) ≤ length s → Samples (largest d) 0 ((h + 6) * (w + 6)) s → Window d w h odd s
+window_of p q r room S = record { width = p; height = q; parity = r; room = omega arith; samples = S }
 
 -- ---- the eps of a set
 module _ {set : ℕ} {p : Params} (P : ParamsOf set p) where
