@@ -1,6 +1,7 @@
 // The records of a file, each put to a check.
-ghost use Rattle.std.specs.Prelude.{◌≡◌, ◌≤◌, ℕ, List, ◌++◌, length, IfOk, IfSome};
+ghost use Rattle.std.specs.Prelude.{◌≡◌, ◌≤◌, ℕ, List, ◌++◌, length, IfOk, IfSome, OnErr};
 ghost use Rattle.std.specs.Io.KnownBytes.{Consumes};
+ghost use Rattle.records.specs.Skipped.{skipped};
 
 use crate::record::{NoRecord, Record};
 use input::read_full;
@@ -31,7 +32,7 @@ impl fmt::Display for Tally {
 
 // The entry count before a record; None where the file ends, as it does at a 0.
 fn count<R: Read>(from: &mut R) -> io::Result<Option<u16>>
-    ensures { IfOk result (λ o. IfSome o (λ _. (head : List ℕ) × Consumes (R.remaining from.old) (R.remaining from.new) head)) }
+    ensures { IfOk result (λ o. IfSome o (λ _. (head : List ℕ) × Consumes (R.remaining from.old) (R.remaining from.new) head × (length head ≡ 2))) }
 {
     let mut head = [0u8; 2];
     if read_full(from, &mut head)? < 2 {
@@ -67,7 +68,7 @@ pub fn next_record<'a, R: Read>(
     extent: Extent,
     room: &'a mut [u8],
 ) -> io::Result<Option<Record<'a>>>
-    ensures { IfOk result (λ o. IfSome o (λ r. (count : List ℕ) × Consumes (R.remaining from.old) (R.remaining from.new) (count ++ r.bytes.now))) }
+    ensures { IfOk result (λ o. IfSome o (λ r. (count : List ℕ) × Consumes (R.remaining from.old) (R.remaining from.new) (count ++ r.bytes.now) × (length count ≡ skipped extent))) }
 {
     match extent {
         Extent::Bytes(size) => whole(from, size, room),
@@ -87,7 +88,8 @@ pub fn replay<R: Read, F: FnMut(Record<'_>) -> Result<bool, NoRecord>>(
     mut agrees: F,
 ) -> io::Result<Tally>
     requires { F.IsAlwaysCallable agrees }
-    ensures { IfOk result (λ t. t.mismatches ≤ t.records × t.records ≤ most) }
+    ensures counted { IfOk result (λ t. t.mismatches ≤ t.records × t.records ≤ most) }
+    ensures kept { OnErr result (length room.new ≡ length room.old) }
 {
     let mut tally = Tally::default();
     for _ in 0..most {
