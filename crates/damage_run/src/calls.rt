@@ -1,6 +1,6 @@
 // The calls of the run: stripes 3, 0, 4, 1, 2, and between them calls that are refused. Each call has a line.
 use crate::figures::changed;
-use crate::picture::{UNITS, frame};
+use crate::picture::{SAMPLES, UNITS, frame};
 use in_place::restore_stripe;
 use standard::Refusal;
 use std::io;
@@ -36,7 +36,7 @@ impl Call {
 // What the calls are lent.
 #[derive(Drop)]
 pub struct Lent {
-    pub plane: Vec<i32>,
+    pub plane: [i32; SAMPLES],
     pub edges: [i32; 192],
     pub marks: [u8; 5],
     pub scratch: [i32; 8640],
@@ -85,8 +85,8 @@ fn answer(call: &Call, lent: &mut Lent) -> u32 {
 }
 
 // A call and its line: what it is, its answer, and how many samples of the plane it changes.
-fn shown(rt: &(impl Print + AllocGlobal), call: &Call, lent: &mut Lent) -> io::Result<()> {
-    let before = lent.plane.clone()?;
+fn shown(rt: &impl Print, call: &Call, lent: &mut Lent) -> io::Result<()> {
+    let before = lent.plane;
     let what = call.what;
     let answer = answer(call, lent);
     let changed = changed(&lent.plane, &before);
@@ -94,7 +94,7 @@ fn shown(rt: &(impl Print + AllocGlobal), call: &Call, lent: &mut Lent) -> io::R
 }
 
 // The calls, in their order.
-pub fn run(rt: &(impl Print + AllocGlobal), lent: &mut Lent) -> io::Result<()> {
+pub fn run(rt: &impl Print, lent: &mut Lent) -> io::Result<()> {
     let calls = [
         Call::new("stripe 3", 3, Fault::Nothing),
         Call::new("stripe 3 again", 3, Fault::Nothing),

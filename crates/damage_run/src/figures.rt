@@ -1,6 +1,5 @@
-// Figures of the run: which samples differ or are overwritten, and how far apart they are.
+// Figures of the run: how many samples differ or are overwritten, and how far apart they are.
 use crate::picture::overwritten;
-use std::alloc::{AllocError, Global};
 
 // The samples in which two planes differ.
 pub fn changed(a: &[i32], b: &[i32]) -> usize {
@@ -8,26 +7,18 @@ pub fn changed(a: &[i32], b: &[i32]) -> usize {
 }
 
 // The places from .. end at which two planes differ.
-pub fn differing(
-    alloc: Global,
-    a: &[i32],
-    b: &[i32],
-    from: usize,
-    end: usize,
-) -> Result<Vec<usize>, AllocError> {
+pub fn differing(a: &[i32], b: &[i32], from: usize, end: usize) -> usize {
     a.iter()
         .zip(b)
-        .enumerate()
         .take(end)
         .skip(from)
-        .filter(|(_, (x, y))| *x != *y)
-        .map(|(k, _)| k)
-        .collect(alloc)
+        .filter(|(x, y)| *x != *y)
+        .count()
 }
 
 // The overwritten places of from .. end.
-pub fn damage(alloc: Global, from: usize, end: usize) -> Result<Vec<usize>, AllocError> {
-    (from..end).filter(|k| overwritten(*k)).collect(alloc)
+pub fn damage(from: usize, end: usize) -> usize {
+    (from..end).filter(|k| overwritten(*k)).count()
 }
 
 // From one place to another, in rows or columns, whichever is more.
@@ -35,11 +26,22 @@ fn gap(k: usize, j: usize) -> usize {
     (k / 12).abs_diff(j / 12).max((k % 12).abs_diff(j % 12))
 }
 
-fn nearest(k: usize, damage: &[usize]) -> Option<usize> {
-    damage.iter().map(|j| gap(k, *j)).min()
+// From place k to the nearest overwritten one of from .. end; None where there is none.
+fn nearest(k: usize, from: usize, end: usize) -> Option<usize> {
+    (from..end)
+        .filter(|j| overwritten(*j))
+        .map(|j| gap(k, j))
+        .min()
 }
 
-// The farthest that a differing sample is from the nearest overwritten one; None where no sample differs.
-pub fn farthest(differing: &[usize], damage: &[usize]) -> Option<usize> {
-    differing.iter().filter_map(|k| nearest(*k, damage)).max()
+// The farthest that a differing sample of from .. end is from the nearest overwritten one there; None where no sample differs.
+pub fn farthest(a: &[i32], b: &[i32], from: usize, end: usize) -> Option<usize> {
+    a.iter()
+        .zip(b)
+        .enumerate()
+        .take(end)
+        .skip(from)
+        .filter(|(_, (x, y))| *x != *y)
+        .filter_map(|(k, _)| nearest(k, from, end))
+        .max()
 }

@@ -27,13 +27,13 @@ fn tell(rt: &impl Print, answer: Result<u32, Refusal>) -> io::Result<()> {
 
 // What comes before any damage: the whole plane's answer, and the edge rows.
 fn prepare(
-    rt: &(impl Print + AllocGlobal),
+    rt: &impl Print,
     whole: &mut [i32],
     edges: &mut [i32],
     scratch: &mut [i32],
 ) -> io::Result<()> {
-    let deblocked = deblocked(rt.alloc())?;
-    let cdef = cdef(rt.alloc())?;
+    let deblocked = deblocked();
+    let cdef = cdef();
     println!(rt;
         "12 columns, 264 rows, 8 bits; units from the top: Wiener, self-guided, none, Wiener\n"
     )?;
@@ -49,31 +49,21 @@ fn prepare(
 }
 
 // Stripe s against the undamaged plane, as a line.
-fn compared(
-    rt: &(impl Print + AllocGlobal),
-    s: u32,
-    mark: u8,
-    plane: &[i32],
-    whole: &[i32],
-) -> io::Result<()>
+fn compared(rt: &impl Print, s: u32, mark: u8, plane: &[i32], whole: &[i32]) -> io::Result<()>
     requires { s < 5 }
 {
     let from = 12 * stripe_start(0, s) as usize;
     let end = SAMPLES.min(12 * stripe_stop(0, s) as usize);
-    let damage = damage(rt.alloc(), from, end)?;
-    let differing = differing(rt.alloc(), plane, whole, from, end)?;
-    print!(rt;
-        "{s:>13}{mark:>13}{:>13}{:>13}",
-        damage.len(),
-        differing.len()
-    )?;
-    match farthest(&differing, &damage) {
+    let damage = damage(from, end);
+    let differing = differing(plane, whole, from, end);
+    print!(rt; "{s:>13}{mark:>13}{damage:>13}{differing:>13}")?;
+    match farthest(plane, whole, from, end) {
         Some(far) => println!(rt; "{far:>13}"),
         None => println!(rt; "{:>13}", "-"),
     }
 }
 
-fn compare(rt: &(impl Print + AllocGlobal), lent: &Lent, whole: &[i32]) -> io::Result<()> {
+fn compare(rt: &impl Print, lent: &Lent, whole: &[i32]) -> io::Result<()> {
     println!(rt; "\n       stripe         mark  overwritten    differing     farthest")?;
     for s in 0..5u32 {
         compared(rt, s, lent.marks[s as usize], &lent.plane, whole)?;
@@ -92,9 +82,9 @@ fn legend(rt: &impl Print) -> io::Result<()> {
 }
 
 fn main(rt: HostRuntime) -> io::Result<()> {
-    let mut whole = vec![in rt.alloc(); 0; SAMPLES]?;
+    let mut whole = [0; SAMPLES];
     let mut lent = Lent {
-        plane: damaged(rt.alloc())?,
+        plane: damaged(),
         edges: [0; 192],
         marks: [0; 5],
         scratch: [0; 8640],

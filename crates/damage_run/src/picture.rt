@@ -2,7 +2,7 @@
 ghost use Rattle.std.specs.Prelude.{◌<◌};
 
 use standard::Frame;
-use std::alloc::{AllocError, Global};
+use std::array::from_fn;
 
 // The samples of the plane.
 pub const SAMPLES: usize = 3168;
@@ -54,12 +54,12 @@ pub fn overwritten(k: usize) -> bool {
     )
 }
 
-pub fn deblocked(alloc: Global) -> Result<Vec<i32>, AllocError> {
-    (0..SAMPLES).map(|k| deblocked_at(k) as i32).collect(alloc)
+pub fn deblocked() -> [i32; SAMPLES] {
+    from_fn(|k| deblocked_at(k) as i32)
 }
 
-pub fn cdef(alloc: Global) -> Result<Vec<i32>, AllocError> {
-    (0..SAMPLES).map(|k| cdef_at(k) as i32).collect(alloc)
+pub fn cdef() -> [i32; SAMPLES] {
+    from_fn(|k| cdef_at(k) as i32)
 }
 
 // The sample of the damaged CDEF plane: 255 less the sample is always another one.
@@ -69,6 +69,6 @@ fn damaged_at(k: usize) -> i32 {
 }
 
 // The CDEF plane, with samples of stripes 1 and 3 overwritten.
-pub fn damaged(alloc: Global) -> Result<Vec<i32>, AllocError> {
-    (0..SAMPLES).map(damaged_at).collect(alloc)
+pub fn damaged() -> [i32; SAMPLES] {
+    from_fn(damaged_at)
 }

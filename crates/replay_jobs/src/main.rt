@@ -42,7 +42,7 @@ fn agrees(mut record: Record<'_>) -> Result<bool, NoRecord> {
 
 fn main(rt: HostRuntime) -> io::Result<()> {
     let mut file = File::open(&rt, "jobs.rec")?;
-    let mut bytes = vec![in rt.alloc(); 0u8; 65536]?;
+    let mut bytes = [0; 65536];
     let tally = replay(&mut file, Extent::Counted, 10000000, &mut bytes, agrees)?;
     println!(rt; "jobs {tally}")
 }

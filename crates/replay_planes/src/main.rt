@@ -5,30 +5,17 @@
 use records::file::{Extent, replay};
 use records::record::{NoRecord, Record, blank, signed};
 use restoration::restore_plane;
-use std::alloc::{AllocError, Global};
 use std::fs::File;
 use std::io;
 
 // What a call is lent; a record that asks for more does not agree.
 #[derive(Drop)]
 struct Room {
-    units: Vec<i32>,
-    deblocked: Vec<i32>,
-    cdef: Vec<i32>,
-    out: Vec<i32>,
-    scratch: Vec<i32>,
-}
-
-impl Room {
-    fn new(alloc: Global) -> Result<Room, AllocError> {
-        Ok(Room {
-            units: vec![in alloc; 0; 1024]?,
-            deblocked: vec![in alloc; 0; 6208]?,
-            cdef: vec![in alloc; 0; 6208]?,
-            out: vec![in alloc; 0; 6208]?,
-            scratch: vec![in alloc; 0; 65536]?,
-        })
-    }
+    units: [i32; 1024],
+    deblocked: [i32; 6208],
+    cdef: [i32; 6208],
+    out: [i32; 6208],
+    scratch: [i32; 65536],
 }
 
 // Whether the record's plane is what comes out. The planes after the first are as long as it, whatever their counts say.
@@ -50,8 +37,14 @@ fn agrees(mut record: Record<'_>, room: &mut Room) -> Result<bool, NoRecord> {
 
 fn main(rt: HostRuntime) -> io::Result<()> {
     let mut file = File::open(&rt, "planes.rec")?;
-    let mut bytes = vec![in rt.alloc(); 0u8; 65536]?;
-    let mut room = Room::new(rt.alloc())?;
+    let mut bytes = [0; 65536];
+    let mut room = Room {
+        units: [0; 1024],
+        deblocked: [0; 6208],
+        cdef: [0; 6208],
+        out: [0; 6208],
+        scratch: [0; 65536],
+    };
     let tally = replay(&mut file, Extent::Counted, 65535, &mut bytes, |record| {
         agrees(record, &mut room)
     })?;

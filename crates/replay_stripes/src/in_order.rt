@@ -4,30 +4,16 @@ use geometry::count;
 use in_place::restore_stripe;
 use records::record::{NoRecord, Record, signed};
 use standard::Frame;
-use std::alloc::{AllocError, Global};
 
 // What the calls are lent, with a mark for each of at most 64 stripes; a record that asks for more does not agree.
 #[derive(Drop)]
 pub struct Room {
-    units: Vec<i32>,
-    edges: Vec<i32>,
-    plane: Vec<i32>,
-    marks: Vec<u8>,
-    scratch: Vec<i32>,
-    copy: Vec<i32>,
-}
-
-impl Room {
-    pub fn new(alloc: Global) -> Result<Room, AllocError> {
-        Ok(Room {
-            units: vec![in alloc; 0; 256]?,
-            edges: vec![in alloc; 0; 1024]?,
-            plane: vec![in alloc; 0; 6208]?,
-            marks: vec![in alloc; 0; 64]?,
-            scratch: vec![in alloc; 0; 65536]?,
-            copy: vec![in alloc; 0; 4096]?,
-        })
-    }
+    pub units: [i32; 256],
+    pub edges: [i32; 1024],
+    pub plane: [i32; 6208],
+    pub marks: [u8; 64],
+    pub scratch: [i32; 65536],
+    pub copy: [i32; 4096],
 }
 
 // The stripes of a plane. Their count does not depend on the unit size, which is anything with frame type 0.
@@ -48,7 +34,7 @@ pub fn agrees(mut record: Record<'_>, room: &mut Room) -> Result<bool, NoRecord>
     }
     let mut order = record.entries(n)?;
     record.size()?;
-    let marks = room.marks.as_mut_slice();
+    let marks = &mut room.marks[..];
     let marks = marks.get_mut(..stripes_of(f)).ok_or(NoRecord::NoRoom)?;
     marks.fill(0);
     let (scratch, copy) = (&mut room.scratch, &mut room.copy);

@@ -11,9 +11,9 @@ use std::io;
 
 fn edges(rt: &HostRuntime) -> io::Result<()> {
     let mut file = File::open(rt, "edges.rec")?;
-    let mut bytes = vec![in rt.alloc(); 0u8; 65536]?;
-    let mut deblocked = vec![in rt.alloc(); 0i32; 4096]?;
-    let mut edges = vec![in rt.alloc(); 0i32; 1024]?;
+    let mut bytes = [0; 65536];
+    let mut deblocked = [0; 4096];
+    let mut edges = [0; 1024];
     let tally = replay(&mut file, Extent::Counted, 65535, &mut bytes, |record| {
         captured::agrees(record, &mut deblocked, &mut edges)
     })?;
@@ -22,8 +22,15 @@ fn edges(rt: &HostRuntime) -> io::Result<()> {
 
 fn stripes(rt: &HostRuntime) -> io::Result<()> {
     let mut file = File::open(rt, "stripes.rec")?;
-    let mut bytes = vec![in rt.alloc(); 0u8; 65536]?;
-    let mut room = Room::new(rt.alloc())?;
+    let mut bytes = [0; 65536];
+    let mut room = Room {
+        units: [0; 256],
+        edges: [0; 1024],
+        plane: [0; 6208],
+        marks: [0; 64],
+        scratch: [0; 65536],
+        copy: [0; 4096],
+    };
     let tally = replay(&mut file, Extent::Counted, 65535, &mut bytes, |record| {
         in_order::agrees(record, &mut room)
     })?;

@@ -38,12 +38,12 @@ fn agrees(mut record: Record<'_>, input: &mut [i32], output: &mut [i32]) -> Resu
     Ok(upscale_plane(s, input, output).is_ok() && record.same(output))
 }
 
-// A plane of more samples than the room, or a record of more bytes, is not replayed.
+// A plane of more samples than its room does not agree; at a record of more bytes the run ends.
 fn main(rt: HostRuntime) -> io::Result<()> {
     let mut file = File::open(&rt, "upscale.rec")?;
-    let mut bytes = vec![in rt.alloc(); 0u8; 65536]?;
-    let mut input = vec![in rt.alloc(); 0i32; 16392]?;
-    let mut output = vec![in rt.alloc(); 0i32; 8192]?;
+    let mut bytes = [0; 65536];
+    let mut input = [0; 16392];
+    let mut output = [0; 8192];
     let tally = replay(&mut file, Extent::Counted, 65535, &mut bytes, |record| {
         agrees(record, &mut input, &mut output)
     })?;
